@@ -16,3 +16,4 @@ pub mod Covers
 pub mod Hints
 pub mod Encodings
 pub mod Passing
+pub mod Filling

@@ -1,4 +1,5 @@
 pub mod Items
 pub mod Decoding
 pub mod Boundaries
+pub mod Filled
 pub mod Lemmas

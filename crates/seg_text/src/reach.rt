@@ -1,9 +1,10 @@
 //! How many boundaries are left of a text, whatever gives them.
 
-ghost use Rattle.std.specs.Prelude.{◌≡◌, ◌≤◌, ⊤, ℕ, List, ◌∷◌, length, IfSome};
+ghost use Rattle.std.specs.Prelude.{◌≡◌, ◌≤◌, ⊤, ℕ, true, List, ◌∷◌, length, min, IfSome};
 ghost use Rattle.std.specs.Iterator.{YieldsFirst, MakesProgress, item_count};
 ghost use Rattle.seg_text.specs.declared.boundary.Boundary.{Boundary as AnyBoundary};
 ghost use Rattle.seg_text.specs.Boundaries.{GivesNext, IsCover, Remainder, boundary, offsets_left, AreAhead};
+ghost use Rattle.seg_text.specs.Filled.{WritesBoth, WritesPlaces};
 
 use std::marker::Model;
 
@@ -22,7 +23,8 @@ impl Reach {
     /// Goes on to the next boundary.
     #[inline(always)]
     pub fn go_to(&mut self, place: usize)
-        ensures { (status : ℕ) (left : List AnyBoundary) → AreAhead self.old (boundary place status ∷ left) → AreAhead self.new left }
+        ensures next { (status : ℕ) (left : List AnyBoundary) → AreAhead self.old (boundary place status ∷ left) → AreAhead self.new left }
+        ensures end { (self.new.started ≡ true) × (self.new.place ≡ place) × (self.new.end ≡ self.old.end) }
     {
         self.started = true;
         self.place = place;
@@ -59,6 +61,54 @@ pub trait BoundarySource: Drop {
     /// The same boundaries once more, from the same one on. Takes no memory.
     fn fork(&self) -> Self
         ensures { result ≡ self.now };
+}
+
+/// What gives the boundaries of a text many at a time, too.
+pub trait BufferSource: BoundarySource {
+    /// Writes the places of the next boundaries over the first of `places`, as many as there are and there is room for, and returns
+    /// how many. Takes no memory.
+    fn fill(&mut self, places: &mut [usize]) -> usize
+        ensures { WritesPlaces (Self.remainder self.old) (Self.remainder self.new) places.old places.new result };
+
+    /// Writes the places of the next boundaries and their statuses, as many as both buffers have room for. Takes no memory.
+    fn fill_both(&mut self, places: &mut [usize], statuses: &mut [u8]) -> usize
+        ensures { WritesBoth (min (length places.old) (length statuses.old)) (Self.remainder self.old) (Self.remainder self.new)
+            places.old places.new statuses.old statuses.new result };
+}
+
+/// Writes what `BufferSource::fill` does, boundary by boundary.
+pub fn write_places<B: BoundarySource>(source: &mut B, places: &mut [usize]) -> usize
+    ensures { WritesPlaces (B.remainder source.old) (B.remainder source.new) places.old places.new result }
+{
+    for index in 0..places.len() {
+        match source.next_boundary() {
+            Some(place) => places[index] = place,
+            None => return index,
+        }
+    }
+    places.len()
+}
+
+/// Writes what `BufferSource::fill_both` does, boundary by boundary.
+pub fn write_both<B: BoundarySource>(
+    source: &mut B,
+    places: &mut [usize],
+    statuses: &mut [u8],
+) -> usize
+    ensures { WritesBoth (min (length places.old) (length statuses.old)) (B.remainder source.old) (B.remainder source.new)
+        places.old places.new statuses.old statuses.new result }
+{
+    let room = places.len().min(statuses.len());
+    for index in 0..room {
+        match source.next_boundary() {
+            Some(place) => {
+                places[index] = place;
+                statuses[index] = source.last_status();
+            }
+            None => return index,
+        }
+    }
+    room
 }
 
 /// The boundaries of a text as an iterator over their places, which knows how many are left at least and at most.
@@ -110,6 +160,31 @@ impl<B: BoundarySource> HintedBoundaries<B> {
         ensures { result ≡ self.now.status }
     {
         self.source.last_status()
+    }
+}
+
+impl<B: BufferSource> HintedBoundaries<B> {
+    /// Writes the places of the next boundaries over the first of `places`, as many as there are and there is room for, and returns
+    /// how many. Takes no memory.
+    pub fn fill(&mut self, places: &mut [usize]) -> usize
+        ensures { WritesPlaces self.old self.new places.old places.new result }
+    {
+        let count = self.source.fill(places);
+        if count > 0 {
+            self.reach.go_to(places[count - 1]);
+        }
+        count
+    }
+
+    /// Writes the places of the next boundaries and their statuses, as many as both buffers have room for. Takes no memory.
+    pub fn fill_both(&mut self, places: &mut [usize], statuses: &mut [u8]) -> usize
+        ensures { WritesBoth (min (length places.old) (length statuses.old)) self.old self.new places.old places.new statuses.old statuses.new result }
+    {
+        let count = self.source.fill_both(places, statuses);
+        if count > 0 {
+            self.reach.go_to(places[count - 1]);
+        }
+        count
     }
 }
 

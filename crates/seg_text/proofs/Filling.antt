@@ -1,0 +1,149 @@
+-- Buffers that are filled one by one.
+use Rattle.std.proofs.Common.{◌≡◌, ℕ, zero, suc, ◌+◌, ◌-◌, ◌<◌, ◌≤◌, List, [], ◌∷◌, ◌++◌, take, drop, map, set, slice_index, length, Bool, true, false, refl, sym, ap, ◌∙◌, subst, arith}
+use Rattle.std.proofs.lemmas.Bool.{lt-ltb, le-ltb}
+use Rattle.std.proofs.lemmas.List.{length-drop, length-map}
+use Rattle.seg_text.specs.declared.boundary.Boundary.{Boundary}
+use Rattle.seg_text.specs.declared.reach.Reach.{Reach}
+use Rattle.seg_text.specs.Boundaries.{Remainder, RisesTo, AreAhead, AreLeft, boundary, offsets}
+use Rattle.seg_text.specs.Filled.{TakesFirst, after_given, last_status}
+
+-- so many of all numbers were written, and these are left
+pub record Filling {X : Type 0} (all old now : List X) (index : ℕ) (left : List X) : Type 0 where
+  pub rest : drop index all ≡ left
+  pub some : index ≤ length all
+  pub written : now ≡ take index all ++ drop index old
+
+pub begun : {X : Type 0} (all old left : List X) → all ≡ left → Filling all old old 0 left
+begun all old left is = record { rest = is; some = omega arith; written = refl }
+
+one-more : {X : Type 0} (all old : List X) (index : ℕ) (x : X) (left : List X) → index < length old → drop index all ≡ x ∷ left
+    → (set (take index all ++ drop index old) index x ≡ take (suc index) all ++ drop (suc index) old) × (drop (suc index) all ≡ left) × (index < length all)
+one-more {X} [] old index x left inside is = absurd (omega (arith, ap length is, length-drop {A = X} index []))
+one-more (y ∷ all) [] index x left inside is = absurd (omega arith)
+one-more (y ∷ all) (o ∷ old) zero x left inside is = (cc, cc, omega arith)
+one-more (y ∷ all) (o ∷ old) (suc index) x left inside is =
+    let (written, rest, some) = one-more all old index x left (omega arith) is in
+    (ap (λ now. y ∷ now) written, rest, omega arith)
+
+pub went-on : {X : Type 0} (all old now : List X) (index : ℕ) (x : X) (left later : List X) → Filling all old now index left → left ≡ x ∷ later → index < length old
+    → Filling all old (set now index x) (index + 1) later
+went-on all old now index x left later filling is inside =
+    let (written, rest, some) = one-more all old index x later inside (filling.rest ∙ is) in
+    let next : index + 1 ≡ suc index = omega arith in
+    rw next (record { rest = rest; some = some; written = ap (λ now. set now index x) filling.written ∙ written })
+
+-- what is left behind one that is gone
+pub behind : {X : Type 0} (all : List X) (index : ℕ) (x : X) (left : List X) → drop index all ≡ x ∷ left → drop (index + 1) all ≡ left
+behind all index x left is =
+    let next : index + 1 ≡ suc index = omega arith in
+    rw next (on all index is)
+  where
+    on : (all : List _) (index : ℕ) → drop index all ≡ x ∷ left → drop (suc index) all ≡ left
+    on [] zero is = cc
+    on [] (suc index) is = cc
+    on (y ∷ all) zero is = cc
+    on (y ∷ all) (suc index) is = on all index is
+
+-- none are left
+pub at-end : {X : Type 0} (room : ℕ) (all old now : List X) (index : ℕ) (left : List X) → Filling all old now index left → left ≡ [] → index < room → TakesFirst room all old now index
+at-end room all old now index left filling is inside =
+    let none = ap length (filling.rest ∙ is) in
+    record { few = omega (arith, length-drop index all, none, filling.some, inside); first = filling.written }
+
+-- there is no room left
+pub full : {X : Type 0} (room : ℕ) (all old now : List X) (index : ℕ) (left : List X) → Filling all old now index left → index ≡ room → TakesFirst room all old now room
+full room all old now index left filling is =
+    rw (← is) (record { few = omega (arith, filling.some); first = filling.written })
+
+-- nothing is written where there is nothing
+pub nothing : {X : Type 0} (room : ℕ) (old : List X) → TakesFirst room [] old old 0
+nothing room old = record { few = omega arith; first = refl }
+
+-- Boundaries of an engine.
+
+-- so many were written, in turn
+pub record Writing (room : ℕ) (before now : Remainder) (index : ℕ) : Type 0 where
+  pub left : now.left ≡ drop index before.left
+  pub status : now.status ≡ last_status before.status (take index before.left)
+  pub some : index ≤ length before.left
+  pub within : index ≤ room
+
+pub writing-begins : (room : ℕ) (before : Remainder) → Writing room before before 0
+writing-begins room before = record { left = refl; status = refl; some = omega arith; within = omega arith }
+
+last-taken : (status index : ℕ) (boundaries : List Boundary) (next : Boundary) (later : List Boundary) → drop index boundaries ≡ next ∷ later
+    → (last_status status (take (index + 1) boundaries) ≡ next.status) × (drop (index + 1) boundaries ≡ later) × (index < length boundaries)
+last-taken status index boundaries next later is =
+    let one : index + 1 ≡ suc index = omega arith in
+    rw one (on status index boundaries is)
+  where
+    on : (status index : ℕ) (boundaries : List Boundary) → drop index boundaries ≡ next ∷ later
+        → (last_status status (take (suc index) boundaries) ≡ next.status) × (drop (suc index) boundaries ≡ later) × (index < length boundaries)
+    on status zero [] is = cc
+    on status (suc index) [] is = cc
+    on status zero (first ∷ boundaries) is = (cc, cc, omega arith)
+    on status (suc index) (first ∷ boundaries) is =
+        let (last, rest, some) = on first.status index boundaries is in
+        (last, rest, omega (arith, some))
+
+pub writing-on : (room : ℕ) (before now next : Remainder) (index offset : ℕ) → Writing room before now index → index < room → now.left ≡ boundary offset next.status ∷ next.left
+    → Writing room before next (index + 1)
+writing-on room before now next index offset w inside is =
+    let (last, rest, some) = last-taken before.status index before.left (boundary offset next.status) next.left (sym w.left ∙ is) in
+    record { left = sym rest; status = sym last; some = omega (arith, some); within = omega (arith, inside) }
+
+same-remainder : (r : Remainder) (left : List Boundary) (status : ℕ) → r.left ≡ left → r.status ≡ status → r ≡ record { left = left; status = status }
+same-remainder r left status one two = rw (← one, ← two) refl
+
+-- there was no more room, or nothing was left
+pub written-full : (room : ℕ) (before now : Remainder) (index : ℕ) → Writing room before now index → index ≡ room → now ≡ after_given room index before
+written-full room before now index w full =
+    same-remainder now _ _ w.left (w.status ∙ rw (le-ltb index room (omega (arith, full))) refl)
+
+pub written-all : (room : ℕ) (before now next : Remainder) (index : ℕ) → Writing room before now index → index < room → now.left ≡ [] → next.left ≡ [] → next.status ≡ 0
+    → next ≡ after_given room index before
+written-all room before now next index w inside none left status =
+    same-remainder next _ _ (left ∙ sym none ∙ w.left) (status ∙ rw (lt-ltb index room inside) refl)
+
+-- the places, and the statuses, of what is left
+pub offsets-are : (before now : Remainder) (offset status : ℕ) (later : List Boundary) → now.left ≡ boundary offset status ∷ later → offsets now.left ≡ offset ∷ offsets later
+offsets-are before now offset status later is = ap offsets is
+
+pub filling-on : (all old now : List ℕ) (index x : ℕ) (value : Boundary → ℕ) (left later : List Boundary) (b : Boundary) → Filling all old now index (map value left) → left ≡ b ∷ later
+    → x ≡ value b → index < length old → Filling all old (set now index x) (index + 1) (map value later)
+filling-on all old now index x value left later b filling is same inside = went-on all old now index x (map value left) (map value later) filling (rw is (rw same refl)) inside
+
+-- Boundaries that were passed.
+
+passed-last : (from end : ℕ) (boundaries : List Boundary) (count : ℕ) → RisesTo from boundaries end → count < length boundaries
+    → RisesTo (slice_index (offsets boundaries) count) (drop (suc count) boundaries) end
+passed-last from end [] count rises some = absurd (omega (arith, some))
+passed-last from end (first ∷ boundaries) zero rises some = rises.1
+passed-last from end (first ∷ boundaries) (suc count) rises some = passed-last first.offset end boundaries count rises.1 (omega (arith, some))
+
+left-behind : (started : Bool) (from end : ℕ) (boundaries : List Boundary) (count : ℕ) → AreLeft started from end boundaries → count < length boundaries
+    → RisesTo (slice_index (offsets boundaries) count) (drop (suc count) boundaries) end
+left-behind true from end boundaries count rises some = passed-last from end boundaries count rises some
+left-behind false from end [] count cover some = absurd cover
+left-behind false from end (first ∷ boundaries) zero cover some = subst (λ (at : ℕ). RisesTo at boundaries end) (sym cover.0) cover.1
+left-behind false from end (first ∷ boundaries) (suc count) cover some = passed-last from end boundaries count cover.1 (omega (arith, some))
+
+index-taken : (all tail : List ℕ) (count index : ℕ) → index < count → count ≤ length all → slice_index (take count all ++ tail) index ≡ slice_index all index
+index-taken [] tail count index less some = absurd (omega (arith, less, some))
+index-taken (x ∷ all) tail zero index less some = absurd (omega (arith, less))
+index-taken (x ∷ all) tail (suc count) zero less some = refl
+index-taken (x ∷ all) tail (suc count) (suc index) less some = index-taken all tail count index (omega (arith, less)) (omega (arith, some))
+
+-- where so many were written, the last of them is where the others begin
+pub ahead-behind : (room : ℕ) (before : Reach) (now : Reach) (boundaries : List Boundary) (old new : List ℕ) (count : ℕ) → AreAhead before boundaries
+    → TakesFirst room (offsets boundaries) old new count → 0 < count → now.started ≡ true → now.place ≡ slice_index new (count - 1) → now.end ≡ before.end
+    → AreAhead now (drop count boundaries)
+ahead-behind room before now boundaries old new count ahead taken more on here end =
+    let many : count ≤ length (offsets boundaries) = omega (arith, taken.few) in
+    let long : length (offsets boundaries) ≡ length boundaries = length-map boundaries (λ (b : Boundary). b.offset) in
+    let one : suc (count - 1) ≡ count = omega (arith, more) in
+    let rises : RisesTo (slice_index (offsets boundaries) (count - 1)) (drop (suc (count - 1)) boundaries) before.end =
+    left-behind before.started before.place before.end boundaries (count - 1) ahead (omega (arith, more, many, long)) in
+    let place : now.place ≡ slice_index (offsets boundaries) (count - 1) =
+    here ∙ ap (λ (written : List ℕ). slice_index written (count - 1)) taken.first ∙ index-taken (offsets boundaries) (drop count old) count (count - 1) (omega (arith, more)) many in
+    rw (on, place, end) (subst (λ (n : ℕ). RisesTo (slice_index (offsets boundaries) (count - 1)) (drop n boundaries) before.end) one rises)
