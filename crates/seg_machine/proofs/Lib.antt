@@ -16,3 +16,4 @@ pub mod Scanned
 pub mod Engine
 pub mod Law
 pub mod Rows
+pub mod Entries

@@ -5,4 +5,5 @@ pub mod Search
 pub mod Scan
 pub mod Tailored
 pub mod Rows
+pub mod DenseRows
 pub mod Lemmas

@@ -1,6 +1,6 @@
 -- What is seen of machines with their tailorings.
-use Rattle.std.specs.Prelude.{[]}
-use Rattle.std.specs.Option.{option_map}
+use Rattle.std.specs.Prelude.{Bool, []}
+use Rattle.std.specs.Option.{is_some, option_map}
 use Rattle.seg_machine.specs.Machine.{Machine, machine, with_tailoring, with_parts}
 use Rattle.seg_machine.specs.declared.machine_parts.MachineParts.{MachineParts}
 use Rattle.seg_machine.specs.declared.tailored_machine.TailoredMachine.{TailoredMachine}
@@ -8,6 +8,10 @@ use Rattle.seg_machine.specs.declared.tailored_machine.TailoredMachineBorrowed.{
 
 abbrev pub owned_machine : TailoredMachine → Machine
 owned_machine t = with_tailoring t.machine t.tailoring
+
+-- whether its dense rows were made
+abbrev pub has_rows : TailoredMachine → Bool
+has_rows t = is_some t.rows
 
 abbrev pub machine_of : TailoredMachineBorrowed → Machine
 machine_of t = with_parts t.machine.now t.pseudo_symbol_map.now (option_map (λ replacing. replacing.now) t.replacing)

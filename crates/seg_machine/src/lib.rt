@@ -1,9 +1,8 @@
-//! State machines, checked and tailored, and their engine: a text's segments are the picks of a checked machine.
+//! State machines, checked and tailored: a text's segments are the picks of a checked machine. Their dense rows, for those who ask for them.
 #![tactic(auto)]
 
+pub mod dense_rows;
 pub mod laws;
 pub mod machine_parts;
-mod places;
 pub mod provider;
-pub mod rule_segmenter_v2;
 pub mod tailored_machine;

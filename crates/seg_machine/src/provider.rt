@@ -12,7 +12,7 @@ mod tailoring;
 mod transitions;
 
 pub use machine::SegmenterStateMachine;
-pub(crate) use marks::CONTINUES;
+pub use marks::CONTINUES;
 pub use tailoring::SegmenterStateMachineOverride;
 
 /// A state of a machine: its place in the list of states, from 0 on.

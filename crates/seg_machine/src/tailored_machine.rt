@@ -1,23 +1,29 @@
 //! Machines with their tailorings, as engines read them. It isn't part of the library's surface.
 ghost use Rattle.std.specs.Prelude.{◌≡◌, ◌↔◌, ℕ, ◌<◌, IsTrue, IfOk, IfErr, IfSome, Some, length};
-ghost use Rattle.std.specs.Option.{option_map};
+ghost use Rattle.std.specs.Option.{ForSome, option_map};
 ghost use Rattle.seg_data.specs.Faults.{IsFaultless, IsLowestFault};
 ghost use Rattle.seg_machine.specs.MachineFaults.{HasTextSymbols, IsChecked, HasComplexBelow0100, HasTailoringFault};
 ghost use Rattle.seg_machine.specs.Scan.{IsMark};
+ghost use Rattle.seg_machine.specs.DenseRows.{IsRowData};
 ghost use Rattle.seg_machine.specs.Machine.{IsTextSymbol, state_at, step, symbol_and_script, symbol_count, with_tailoring, without_transitions, ArePlainBelow, with_parts};
 
+use crate::dense_rows::DenseRows;
 use crate::machine_parts::{MachineParts, replacement_by};
 use crate::provider::{
     Acceptance, Lookahead, SegmenterStateMachine, SegmenterStateMachineOverride, State, Symbol,
 };
 use seg_data::provider::{ComplexScript, DataError};
+use std::alloc::{AllocError, Global};
 
 /// A checked machine with its tailoring, if there is one.
 #[derive(Debug)]
 pub struct TailoredMachine {
     machine: SegmenterStateMachine,
     tailoring: Option<SegmenterStateMachineOverride>,
+    // What each state does by each symbol, where that was asked for.
+    rows: Option<DenseRows>,
     ghost text_symbols: { HasTextSymbols (with_tailoring machine tailoring) },
+    ghost rows_stand: { ForSome rows (IsRowData (with_tailoring machine tailoring)) },
 }
 
 // Written out, so that it is proved here and not in each function that drops one.
@@ -26,12 +32,13 @@ impl Drop for TailoredMachine {
         let TailoredMachine {
             machine: _,
             tailoring: _,
+            rows: _,
         } = self;
     }
 }
 
 impl TailoredMachine {
-    ghost use Rattle.seg_machine.specs.Tailored.{machine_of, owned_machine};
+    ghost use Rattle.seg_machine.specs.Tailored.{has_rows, machine_of, owned_machine};
 
     /// The machine as it is.
     pub fn without_tailoring(machine: SegmenterStateMachine) -> Self
@@ -41,6 +48,7 @@ impl TailoredMachine {
         TailoredMachine {
             machine,
             tailoring: None,
+            rows: None,
         }
     }
 
@@ -53,7 +61,22 @@ impl TailoredMachine {
         ensures rejected { IfErr result (IsLowestFault (HasTailoringFault machine tailoring)) }
     {
         TailoredMachineBorrowed::try_new(&machine, tailoring.as_ref())?.facts();
-        Ok(TailoredMachine { machine, tailoring })
+        Ok(TailoredMachine {
+            machine,
+            tailoring,
+            rows: None,
+        })
+    }
+
+    /// Makes its dense rows, by which many boundaries are found at a time. Fails only when out of memory: then it stays as it was.
+    pub fn make_rows(&mut self, alloc: Global) -> Result<(), AllocError>
+        ensures machine { owned_machine self.new ≡ owned_machine self.old }
+        ensures made { IfOk result (λ _. IsTrue (has_rows self.new)) }
+        ensures kept { IfErr result (λ _. self.new ≡ self.old) }
+    {
+        let rows = DenseRows::try_from_machine(alloc, &self.as_borrowed())?;
+        self.rows = Some(rows);
+        Ok(())
     }
 
     /// The same machine, borrowed.
@@ -61,7 +84,8 @@ impl TailoredMachine {
         ensures { machine_of result ≡ owned_machine self.now }
     {
         let (pseudo_symbol_map, replacing) = parts_of(&self.machine, self.tailoring.as_ref());
-        TailoredMachineBorrowed::from_parts(&self.machine, pseudo_symbol_map, replacing)
+        let rows = self.rows.as_ref();
+        TailoredMachineBorrowed::from_parts(&self.machine, pseudo_symbol_map, replacing, rows)
     }
 }
 
@@ -73,8 +97,10 @@ pub struct TailoredMachineBorrowed<'data> {
     // Each value below it is its own symbol: it is the shift where nothing is replaced, and else 0.
     plain_below: u8,
     machine: &'data SegmenterStateMachine,
+    rows: Option<&'data DenseRows>,
     ghost text_symbols: { HasTextSymbols (with_parts machine.now pseudo_symbol_map.now (option_map (λ t. t.now) replacing)) },
     ghost plain: { ArePlainBelow (with_parts machine.now pseudo_symbol_map.now (option_map (λ t. t.now) replacing)) plain_below },
+    ghost rows_stand: { ForSome rows (λ rows. IsRowData (with_parts machine.now pseudo_symbol_map.now (option_map (λ t. t.now) replacing)) rows.now) },
 }
 
 impl<'data> TailoredMachineBorrowed<'data> {
@@ -86,7 +112,7 @@ impl<'data> TailoredMachineBorrowed<'data> {
     {
         machine.facts();
         machine.has_no_replacements();
-        TailoredMachineBorrowed::from_parts(machine, machine.pseudo_symbol_map(), None)
+        TailoredMachineBorrowed::from_parts(machine, machine.pseudo_symbol_map(), None, None)
     }
 
     /// The machine with its tailoring, if there is one. `SymbolOutOfRange` where they don't fit.
@@ -108,6 +134,7 @@ impl<'data> TailoredMachineBorrowed<'data> {
             machine,
             tailoring.pseudo_symbol_map(),
             tailoring.replacing(),
+            None,
         ))
     }
 
@@ -116,8 +143,10 @@ impl<'data> TailoredMachineBorrowed<'data> {
         machine: &'data SegmenterStateMachine,
         pseudo_symbol_map: &'data [(Symbol, ComplexScript)],
         replacing: Option<&'data SegmenterStateMachineOverride>,
+        rows: Option<&'data DenseRows>,
     ) -> Self
-        requires { HasTextSymbols (with_parts machine.now pseudo_symbol_map.now (option_map (λ t. t.now) replacing)) }
+        requires symbols { HasTextSymbols (with_parts machine.now pseudo_symbol_map.now (option_map (λ t. t.now) replacing)) }
+        requires rows { ForSome rows (λ rows. IsRowData (with_parts machine.now pseudo_symbol_map.now (option_map (λ t. t.now) replacing)) rows.now) }
         ensures { machine_of result ≡ with_parts machine.now pseudo_symbol_map.now (option_map (λ t. t.now) replacing.entry) }
     {
         let plain_below = match replacing {
@@ -129,6 +158,7 @@ impl<'data> TailoredMachineBorrowed<'data> {
             pseudo_symbol_map,
             replacing,
             plain_below,
+            rows,
         }
     }
 
@@ -138,6 +168,14 @@ impl<'data> TailoredMachineBorrowed<'data> {
         ensures transitions { result.now.transitions ≡ (machine_of self.now).transitions }
     {
         self.machine
+    }
+
+    /// Its dense rows, where its owner made them.
+    #[inline(always)]
+    pub fn rows(&self) -> Option<&'data DenseRows>
+        ensures { IfSome result (λ rows. IsRowData (machine_of self.now) rows.now) }
+    {
+        self.rows
     }
 
     /// How many lookaheads there are.
@@ -205,7 +243,7 @@ impl<'data> TailoredMachineBorrowed<'data> {
 
     /// The mark of a state.
     #[inline(always)]
-    pub(crate) fn mark(&self, state: State) -> u8
+    pub fn mark(&self, state: State) -> u8
         requires { state < length (machine_of self.now).states }
         ensures { IsMark (state_at (machine_of self.now) state) result }
     {

@@ -1,8 +1,9 @@
 -- Boundaries that are written over the first places of buffers.
 use Rattle.std.proofs.Common.{◌≡◌, ◌≢◌, ℕ, zero, suc, ◌+◌, ◌-◌, ◌*◌, ◌/◌, ◌%◌, ◌<◌, ◌≤◌, Bool, true, false, List, [], ◌∷◌, ◌++◌, drop, map, take, set, length, min, slice_index, refl, sym, ap, ◌∙◌, subst, arith, append_assoc, append-nil, length-append, inl, inr}
+use Rattle.std.specs.Prelude.{if◌then◌else◌, nat_lt}
 use Rattle.std.proofs.Math.Nat.{suc-mul}
 use Rattle.std.proofs.lemmas.Bool.{cases_eq, cases_lt}
-use Rattle.std.proofs.lemmas.List.{drop_at, get_or-set_other, get_or-set_same, length-drop, length-set, map-append, take-map, take-set, take_at, take_more_set}
+use Rattle.std.proofs.lemmas.List.{drop_at, get_or-set_other, get_or-set_same, length-drop, length-map, length-set, map-append, take-map, take-set, take_at, take_more_set}
 use Rattle.seg_text.specs.declared.boundary.Boundary.{Boundary}
 use Rattle.seg_text.specs.Boundaries.{Remainder, boundary, remainder}
 use Rattle.seg_text.specs.Items.{Item, Text, IsRising, rest_after, start_of}
@@ -14,8 +15,9 @@ use Rattle.seg_machine.specs.Pick.{machine_stretch}
 use Rattle.seg_machine.specs.Scan.{IsSegment}
 use Rattle.seg_machine.proofs.Engine.{gives-next}
 use Rattle.seg_machine.proofs.Scanned.{after-after}
-use Rattle.seg_rows.specs.Rows.{slow, status_of}
-use Rattle.seg_rows.specs.Given.{after_first, first_unless, last_status}
+use Rattle.seg_machine.specs.DenseRows.{slow, status_of}
+use Rattle.seg_text.specs.Filled.{TakesFirst, after_given, last_status}
+use Rattle.seg_rows.specs.Given.{first_unless}
 use Rattle.seg_rows.specs.Underway.{IsGiven, IsNextEntry, IsUnderway, behind}
 use Rattle.seg_rows.proofs.Underway.{ends-at, goes}
 
@@ -115,9 +117,38 @@ pub record IsAppended (value : Boundary → ℕ) (from : ℕ) (old : List ℕ) (
   pub counted : count ≡ from + length given
   pub written : take count now ≡ take from old ++ map value given
   pub long : length now ≡ length old
+  pub later : drop (suc count) now ≡ drop (suc count) old
 
 pub appended-start : (value : Boundary → ℕ) (from : ℕ) (old : List ℕ) → IsAppended value from old [] from old
-appended-start value from old = record { counted = omega arith; written = sym (append-nil (take from old)); long = refl }
+appended-start value from old = record { counted = omega arith; written = sym (append-nil (take from old)); long = refl; later = refl }
+
+drop-behind : {X : Type 0} (xs : List X) (index count : ℕ) (x : X) → index < count → drop count (set xs index x) ≡ drop count xs
+drop-behind [] index count x less = refl
+drop-behind (y ∷ xs) index zero x less = absurd (omega (arith, less))
+drop-behind (y ∷ xs) zero (suc count) x less = refl
+drop-behind (y ∷ xs) (suc index) (suc count) x less = drop-behind xs index count x (omega (arith, less))
+
+drop-suc : {X : Type 0} (xs : List X) (n : ℕ) → drop (suc n) xs ≡ drop 1 (drop n xs)
+drop-suc xs zero = refl
+drop-suc [] (suc n) = refl
+drop-suc (x ∷ xs) (suc n) = drop-suc xs n
+
+-- what is equal behind a place is so behind a later one
+pub drop-further : {X : Type 0} (xs ys : List X) (few many : ℕ) → few ≤ many → drop few xs ≡ drop few ys → drop many xs ≡ drop many ys
+drop-further xs ys few zero less same =
+    let here : few ≡ 0 = omega (arith, less) in
+    subst (λ (n : ℕ). drop n xs ≡ drop n ys) here same
+drop-further xs ys few (suc many) less same =
+    elim (cases_lt many few) [
+      | inl last ↦
+          let here : few ≡ suc many = omega (arith, less, last) in
+          subst (λ (n : ℕ). drop n xs ≡ drop n ys) here same
+      | inr past ↦ drop-suc xs many ∙ ap (drop 1) (drop-further xs ys few many past same) ∙ sym (drop-suc ys many)
+    ]
+
+-- one place more is written behind which all is as it was
+later-more : (old now : List ℕ) (count x : ℕ) → drop (suc count) now ≡ drop (suc count) old → drop (suc count) (set now count x) ≡ drop (suc count) old
+later-more old now count x later = drop-behind now count (suc count) x (omega arith) ∙ later
 
 appended-same : (value : Boundary → ℕ) (from : ℕ) (old : List ℕ) (given : List Boundary) (count : ℕ) (now : List ℕ) (x : ℕ)
     → IsAppended value from old given count now → IsAppended value from old given count (set now count x)
@@ -125,6 +156,7 @@ appended-same value from old given count now x a = record {
   counted = a.counted;
   written = take-set now count x ∙ a.written;
   long = length-set now count x ∙ a.long;
+  later = later-more old now count x a.later;
 }
 
 pub appended-more : (value : Boundary → ℕ) (from : ℕ) (old : List ℕ) (given : List Boundary) (count : ℕ) (now : List ℕ) (b : Boundary) (x : ℕ)
@@ -138,6 +170,7 @@ appended-more value from old given count now b x a room is = record {
       ∙ ap (λ (x : ℕ). take from old ++ (map value given ++ x ∷ [])) is
       ∙ ap (λ (later : List ℕ). take from old ++ later) (sym (map-append value given (b ∷ [])));
   long = length-set now count x ∙ a.long;
+  later = drop-further (set now count x) old (suc count) (suc (count + 1)) (omega arith) (later-more old now count x a.later);
 }
 
 -- with this bit one boundary more is given
@@ -282,6 +315,15 @@ filling-scan m first rest from old room count places row after at next status ro
 
 -- What is given, where filling ends.
 
+-- one was written more: all behind it is as it was
+pub later-end : (old now : List ℕ) (count bit x : ℕ) → drop (suc count) now ≡ drop (suc count) old → bit ≡ 1 → drop (count + bit) (set now count x) ≡ drop (count + bit) old
+later-end old now count bit x later one =
+    let next : suc count ≡ count + bit = omega (arith, one) in
+    subst (λ (n : ℕ). drop n (set now count x) ≡ drop n old) next (later-more old now count x later)
+
+pub full-bit : (count room entry : ℕ) → count < room → count + entry % 2 ≡ room → entry % 2 ≡ 1
+full-bit count room entry some full = omega (arith, some, full)
+
 -- the last boundary was found by a scan
 unfoldable pub given-scan : (m : Machine) (first rest : Text) (from : ℕ) (old : List ℕ) (room count : ℕ) (places : List ℕ) (row : ℕ) (after at next : Text) (before status place : ℕ)
     → (f : IsFilling m first rest from old room count places row after) → at ≡ f.last → count < room → room ≤ length old
@@ -297,18 +339,20 @@ given-scan m first rest from old room count places row after at next before stat
       counted = more.counted;
       status_is = sym (last-more before f.given b);
       written = more.written;
+      later = later-end old places count 1 place f.written.later refl;
     }
 
 -- there is no more room
 unfoldable pub given-full : (m : Machine) (first rest : Text) (from : ℕ) (old : List ℕ) (room count : ℕ) (places : List ℕ) (row : ℕ) (after found : Text) (before status : ℕ)
-    → (f : IsFilling m first rest from old room count places row after) → found ≡ f.last → status ≡ last_status before f.given
+    → (f : IsFilling m first rest from old room count places row after) → found ≡ f.last → status ≡ last_status before f.given → drop count places ≡ drop count old
     → IsGiven m first found from count before status old places
-given-full m first rest from old room count places row after found before status f here last = record {
+given-full m first rest from old room count places row after found before status f here last later = record {
   given = f.given;
   whole = f.giving.whole ∙ ap (λ (left : Text). f.given ++ behind m left) (sym here);
   counted = f.written.counted;
   status_is = last;
   written = f.written.written;
+  later = later;
 }
 
 -- nothing is given
@@ -319,6 +363,7 @@ given-none m first from status old = record {
   counted = omega arith;
   status_is = refl;
   written = sym (append-nil (take from old));
+  later = refl;
 }
 
 -- how much is left: boundaries first, and then items
@@ -362,13 +407,13 @@ behind-nil m left none = from left.items none
     from (item ∷ items) none = cc
 
 -- so many of the boundaries that are left were given, and this is left now
-pub record IsDone (m : Machine) (before : Remainder) (given : List Boundary) (count status : ℕ) (rest : Text) (room : ℕ) : Type 0 where
+pub record IsDone (m : Machine) (before : Remainder) (given : List Boundary) (count : ℕ) (left : Text) (status room : ℕ) : Type 0 where
   pub few : count ≡ min (length before.left) room
   pub first : take count before.left ≡ given
-  pub left : remainder true (machine_stretch m) rest status ≡ after_first count before
+  pub left_is : remainder true (machine_stretch m) left (if nat_lt count room then 0 else status) ≡ after_given room count before
 
 done-by : (m : Machine) (before : Remainder) (given : List Boundary) (count status : ℕ) (left : Text) (room : ℕ) → before.left ≡ given ++ behind m left
-    → count ≡ length given → status ≡ last_status before.status given → count ≤ room → (count < room → left.items ≡ []) → IsDone m before given count status left room
+    → count ≡ length given → status ≡ last_status before.status given → count ≤ room → (count < room → left.items ≡ []) → IsDone m before given count left status room
 done-by m before given count status left room whole counted same within end =
     let first : take count before.left ≡ given = ap (take count) whole ∙ take_at given (behind m left) count (sym counted) in
     let rest : drop count before.left ≡ behind m left = ap (drop count) whole ∙ drop_at given (behind m left) count (sym counted) in
@@ -379,13 +424,13 @@ done-by m before given count status left room whole counted same within end =
         | inr past ↦ omega (arith, counted, sum, past, within)
       ];
       first = first;
-      left = rw (rest, first, same) refl;
+      left_is = rw (rest, first, same) refl;
     }
 
 pub done : (m : Machine) (started : Bool) (text first : Text) (old status : ℕ) (given : List Boundary) (from count : ℕ) (left : Text) (room : ℕ)
     → (started ≡ false → old ≡ 0) → first ≡ text → behind m first ≡ given ++ behind m left → from ≡ length (first_unless started (start_of text)) → count ≡ from + length given
     → status ≡ last_status old given → count ≤ room → (count < room → left.items ≡ [])
-    → IsDone m (remainder started (machine_stretch m) text old) (first_unless started (boundary (start_of text) 0) ++ given) count status left room
+    → IsDone m (remainder started (machine_stretch m) text old) (first_unless started (boundary (start_of text) 0) ++ given) count left status room
 done m true text first old status given from count left room none same whole begun counted last within end =
     done-by m (remainder true (machine_stretch m) text old) given count status left room (ap (behind m) (sym same) ∙ whole) (omega (arith, begun, counted)) last within end
 done m false text first old status given from count left room none same whole begun counted last within end =
@@ -394,13 +439,23 @@ done m false text first old status given from count left room none same whole be
     (ap (λ (later : List Boundary). start ∷ later) (ap (behind m) (sym same) ∙ whole)) (omega (arith, begun, counted))
     (last ∙ ap (λ (status : ℕ). last_status status given) (none refl)) within end
 
+split-at : (count : ℕ) (xs : List ℕ) → xs ≡ take count xs ++ drop count xs
+split-at zero xs = refl
+split-at (suc count) [] = refl
+split-at (suc count) (x ∷ xs) = ap (λ (later : List ℕ). x ∷ later) (split-at count xs)
+
 -- what is written of them, where the buffer had what comes first
-pub done-places : (m : Machine) (before : Remainder) (pre given : List Boundary) (count status : ℕ) (left : Text) (room from : ℕ) (value : Boundary → ℕ) (old new : List ℕ)
-    → IsDone m before (pre ++ given) count status left room → take count new ≡ take from old ++ map value given → take from old ≡ map value pre
-    → take count new ≡ take count (map value before.left)
-done-places m before pre given count status left room from value old new d written begun =
-    written ∙ ap (λ (some : List ℕ). some ++ map value given) begun ∙ sym (map-append value pre given) ∙ ap (map value) (sym d.first)
-    ∙ sym (take-map value count before.left)
+pub done-values : (m : Machine) (before : Remainder) (pre given : List Boundary) (count : ℕ) (left : Text) (status room from : ℕ) (value : Boundary → ℕ) (old begun new : List ℕ)
+    → IsDone m before (pre ++ given) count left status room → take count new ≡ take from begun ++ map value given → take from begun ≡ map value pre
+    → drop count new ≡ drop count begun → drop from begun ≡ drop from old → from ≤ count → TakesFirst room (map value before.left) old new count
+done-values m before pre given count left status room from value old begun new d written first later behind within = record {
+  few = d.few ∙ ap (λ (n : ℕ). min n room) (sym (length-map before.left value));
+  first =
+      split-at count new
+      ∙ ap (λ (some : List ℕ). some ++ drop count new)
+      (written ∙ ap (λ (some : List ℕ). some ++ map value given) first ∙ sym (map-append value pre given) ∙ ap (map value) (sym d.first) ∙ sym (take-map value count before.left))
+      ∙ ap (λ (rest : List ℕ). take count (map value before.left) ++ rest) (later ∙ drop-further begun old from count within behind);
+}
 
 pub first-put : {X : Type 0} (xs : List X) (x : X) → 0 < length xs → take 1 (set xs 0 x) ≡ x ∷ []
 first-put [] x some = absurd (omega (arith, some))
@@ -414,3 +469,7 @@ first-long false x y = refl
 pub first-value : (value : Boundary → ℕ) (started : Bool) (b : Boundary) → first_unless started (value b) ≡ map value (first_unless started b)
 first-value value true b = refl
 first-value value false b = refl
+
+pub first-behind : {X : Type 0} (xs : List X) (x : X) → drop 1 (set xs 0 x) ≡ drop 1 xs
+first-behind [] x = refl
+first-behind (y ∷ xs) x = refl

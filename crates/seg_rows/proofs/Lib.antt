@@ -1,5 +1,3 @@
-pub mod Entries
 pub mod Underway
 pub mod Reading
 pub mod Filling
-pub mod Counting

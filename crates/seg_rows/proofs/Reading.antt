@@ -14,10 +14,10 @@ use Rattle.seg_text.proofs.Covers.{covers}
 use Rattle.seg_machine.proofs.Segmentations.{machine-within}
 use Rattle.seg_machine.proofs.Engine.{gives-next}
 use Rattle.seg_machine.proofs.Scanned.{begins-end, begins-next, none-less, one-less, pick-some}
-use Rattle.seg_rows.specs.Rows.{AreRows, end_status, slow}
+use Rattle.seg_machine.specs.DenseRows.{AreRows, end_status, slow}
 use Rattle.seg_rows.specs.Underway.{IsNextEntry, IsStuck}
 use Rattle.seg_rows.proofs.Underway.{stops-at}
-use Rattle.seg_rows.proofs.Entries.{entry-ascii, entry-wide}
+use Rattle.seg_machine.proofs.Entries.{entry-ascii, entry-wide}
 
 pub item-ahead : (m : Machine) (old new : Text) (item : Item) (symbol : ℕ) → IsChecked m → old.items ≡ item ∷ new.items → new.end ≡ old.end
     → symbol ≡ (symbol_and_script m item.1).0 → IsSymbolAhead m old symbol new

@@ -11,9 +11,9 @@ use Rattle.seg_machine.specs.MachineFaults.{IsChecked}
 use Rattle.seg_machine.specs.Pick.{acceptance_status, pick}
 use Rattle.seg_machine.specs.Scan.{acceptance_after, condition_end, place_for, places_after, IsSegment, IsSymbolAhead}
 use Rattle.seg_machine.proofs.Scanned.{found-pick, none-picked, pick-some, scanned-start, scanned-step, scanned-stop}
-use Rattle.seg_rows.specs.Rows.{AreStatuses, row_entry, slow, status_of}
-use Rattle.seg_rows.specs.Underway.{IsAhead, IsNextEntry, IsPassed, IsUnderway}
-use Rattle.seg_rows.proofs.Entries.{IsUnconditional, ends-before, goes-on}
+use Rattle.seg_machine.specs.DenseRows.{AreStatuses, row_entry, slow, status_of}
+use Rattle.seg_rows.specs.Underway.{IsNextEntry, IsUnderway}
+use Rattle.seg_machine.proofs.Entries.{IsUnconditional, ends-before, goes-on}
 
 -- places tell items apart
 same-items : (items : List Item) (end j k : ℕ) → IsRising items end → place_of (drop j items) end ≡ place_of (drop k items) end → drop j items ≡ drop k items
@@ -143,18 +143,6 @@ ends-at m text left after row entry checked rises under next fast odd =
       under = begins m left after next.symbol (entry / 256) checked next.ahead end.begins end.below;
     }
 
-pub passed : (m : Machine) (text left after : Text) (found : Boundary) (row : ℕ) → IsSegment m text left found.status → found.offset ≡ start_of left
-    → IsAhead m left row after → IsPassed m text found row after
-passed m text left after found row (p, picks, status, here) place under =
-    (p, picks, place ∙ ap start_of here, status, subst (λ (t : Text). IsAhead m t row after) here under)
-
-pub ends : (m : Machine) (text left after : Text) (row entry : ℕ) (found : Boundary) → IsChecked m → IsRising text.items text.end → IsUnderway m text row left
-    → IsNextEntry m left (row / 256) entry after → entry ≢ slow → entry % 2 ≡ 1 → found ≡ boundary (start_of left) (status_of m (row / 256))
-    → IsPassed m text found (entry / 256 * 256) after
-ends m text left after row entry found checked rises under next fast odd is =
-    let at = ends-at m text left after row entry checked rises under next fast odd in
-    rw is (passed m text left after (boundary (start_of left) (status_of m (row / 256))) (entry / 256 * 256) at.segment refl (λ some. at.under))
-
 pub row-in : (m : Machine) (text : Text) (row : ℕ) (left : Text) → IsUnderway m text row left → row / 256 < length m.states
 row-in m text row left under =
     let here : row / 256 ≡ under.state = omega (arith, under.row_is) in
@@ -163,14 +151,6 @@ row-in m text row left under =
 -- the status of a row's state
 pub status-in : (m : Machine) (statuses : List ℕ) (row : ℕ) → AreStatuses m statuses → row / 256 < length m.states → slice_index statuses (row / 256) ≡ status_of m (row / 256)
 status-in m statuses row are within = are.stand (row / 256) (omega (arith, within, are.size))
-
--- a boundary by it
-pub by-row : (m : Machine) (statuses : List ℕ) (left : Text) (row place : ℕ) → AreStatuses m statuses → row / 256 < length m.states → place ≡ start_of left
-    → boundary place (slice_index statuses (row / 256)) ≡ boundary (start_of left) (status_of m (row / 256))
-by-row m statuses left row place are within here = rw (here, status-in m statuses row are within) refl
-
-pub segment-same : (m : Machine) (first text left : Text) (status : ℕ) → first ≡ text → IsSegment m first left status → IsSegment m text left status
-segment-same m first text left status same segment = subst (λ (t : Text). IsSegment m t left status) same segment
 
 pub underway-same : (m : Machine) (first text : Text) (row : ℕ) (left : Text) → first ≡ text → IsUnderway m first row left → IsUnderway m text row left
 underway-same m first text row left same under = subst (λ (t : Text). IsUnderway m t row left) same under

@@ -1,13 +1,13 @@
 -- A segment that is read, and what is known of it.
-use Rattle.std.specs.Prelude.{◌≡◌, ◌≢◌, ℕ, ◌+◌, ◌*◌, ◌<◌, Option, Some, List, [], ◌++◌, length, take}
+use Rattle.std.specs.Prelude.{◌≡◌, ◌≢◌, ℕ, ◌+◌, ◌*◌, ◌<◌, Option, Some, List, [], ◌++◌, drop, length, take}
 use Rattle.seg_text.specs.declared.boundary.Boundary.{Boundary}
 use Rattle.seg_text.specs.Boundaries.{boundary, boundaries_in, later_boundaries, offsets}
-use Rattle.seg_text.specs.Items.{Text, code_points, start_of, rest_after}
-use Rattle.seg_machine.specs.Machine.{Machine, state_at, symbols_of}
-use Rattle.seg_machine.specs.Pick.{acceptance_status, machine_stretch, pick}
+use Rattle.seg_text.specs.Filled.{last_status}
+use Rattle.seg_text.specs.Items.{Text, start_of}
+use Rattle.seg_machine.specs.Machine.{Machine, state_at}
+use Rattle.seg_machine.specs.Pick.{acceptance_status, machine_stretch}
 use Rattle.seg_machine.specs.Scan.{IsSymbolAhead, Scanned}
-use Rattle.seg_rows.specs.Rows.{row_entry, slow}
-use Rattle.seg_rows.specs.Given.{last_status}
+use Rattle.seg_machine.specs.DenseRows.{row_entry, slow}
 
 -- the scan of a text has come to the state of this row, and this is left: where the state accepts, that is the last acceptance
 pub record IsUnderway (m : Machine) (text : Text) (row : ℕ) (left : Text) : Type 0 where
@@ -31,13 +31,6 @@ pub record IsNextEntry (m : Machine) (text : Text) (state entry : ℕ) (after : 
   pub known : text.items ≢ [] → symbol < 128 → entry ≡ row_entry m state symbol
   pub less : entry ≢ slow → length after.items < length text.items
 
--- the first segment of a text ends at this boundary, and of what is left there some was read: the state has this row
-abbrev pub IsPassed : Machine → Text → Boundary → ℕ → Text → Type 0
-IsPassed m text found row after =
-    (p : Boundary) × (pick m (symbols_of m (code_points text.items)) ≡ Some p)
-    × (found.offset ≡ start_of (rest_after p.offset text)) × (found.status ≡ p.status)
-    × IsAhead m (rest_after p.offset text) row after
-
 -- the scan of a text has come to a place, in the state of this row
 abbrev pub IsStuck : Machine → Text → ℕ → ℕ → Type 0
 IsStuck m text row place = (left : Text) × IsUnderway m text row left × (place ≡ start_of left)
@@ -47,10 +40,11 @@ abbrev pub behind : Machine → Text → List Boundary
 behind m text = boundaries_in (later_boundaries (machine_stretch m)) text
 
 -- of a text's boundaries behind its start some were given, and this is left. Before, `from` were, and the last of all had the status
--- `before`. Their places stand in a buffer, behind those `from`
+-- `before`. Their places stand in a buffer, behind those `from`, and what stands behind them there is as it was
 pub record IsGiven (m : Machine) (text left : Text) (from count before status : ℕ) (old new : List ℕ) : Type 0 where
   pub given : List Boundary
   pub whole : behind m text ≡ given ++ behind m left
   pub counted : count ≡ from + length given
   pub status_is : status ≡ last_status before given
   pub written : take count new ≡ take from old ++ offsets given
+  pub later : drop count new ≡ drop count old

@@ -9,7 +9,7 @@ const MARK_COUNT: usize = 256;
 
 /// The mark of a state that neither accepts nor names a lookahead. A mark below it is the status that a state accepts with which
 /// names no lookahead.
-pub(crate) const CONTINUES: u8 = 254;
+pub const CONTINUES: u8 = 254;
 
 /// The mark of any other state.
 const OTHER: u8 = 255;
