@@ -1,5 +1,5 @@
 -- What the boundaries of a text are found by.
-use Rattle.std.specs.Prelude.{ℕ, Option, Some, None, List, ◌≡◌, ◌<◌, length, IfSome, [], ◌∷◌, ◌++◌, drop}
+use Rattle.std.specs.Prelude.{⊤, IsTrue, ℕ, Option, Some, None, List, ◌≡◌, ◌<◌, length, IfSome, [], ◌∷◌, ◌++◌, drop}
 use Rattle.std.specs.Char.{encode_utf8}
 use Rattle.std.specs.Char.Escape.{encode_utf16}
 use Rattle.seg_text.specs.declared.boundary.Boundary.{Boundary}
@@ -12,7 +12,7 @@ use Rattle.seg_pairs.specs.PairData.{pair_table_of, override_of, owned_pair_tabl
 use Rattle.seg_pairs.specs.Breaks.{table_stretch}
 use Rattle.seg_machine.specs.Machine.{Machine, step, symbol_and_script, symbol_count}
 use Rattle.seg_machine.specs.Pick.{machine_stretch}
-use Rattle.seg_machine.specs.Tailored.{machine_of, owned_machine}
+use Rattle.seg_machine.specs.Tailored.{has_rows, machine_of, owned_machine}
 use Rattle.seg_clusters.specs.declared.engine.Engine.{Engine}
 use Rattle.seg_clusters.specs.declared.engine.Engine.TheVariants.{Classic, Neo}
 use Rattle.seg_clusters.specs.declared.engine.OwnedEngine.{OwnedEngine}
@@ -54,6 +54,11 @@ rules_of (Neo machine) = ByMachine (machine_of machine)
 abbrev pub owned_rules : OwnedEngine → Rules
 owned_rules (OwnedClassic pairs) = ByTable (owned_pair_table pairs) (owned_override pairs)
 owned_rules (OwnedNeo machine) = ByMachine (owned_machine machine)
+
+-- the dense rows of a machine were made; a pair table needs none
+abbrev pub HasRows : OwnedEngine → Type 0
+HasRows (OwnedClassic pairs) = ⊤
+HasRows (OwnedNeo machine) = IsTrue (has_rows machine)
 
 -- What either engine has still to give.
 

@@ -1,20 +1,22 @@
 //! The engine of a segmenter: that of a pair table, or that of a state machine.
 
-ghost use Rattle.std.specs.Prelude.{◌≡◌, ◌↔◌, ⊤, IsTrue, IfOk, IfErr};
+ghost use Rattle.std.specs.Prelude.{◌≡◌, ◌↔◌, ⊤, IsTrue, IfOk, IfErr, length, min};
 ghost use Rattle.std.specs.Iterator.{YieldsFirst, MakesProgress, item_count};
 ghost use Rattle.seg_text.specs.Items.{start_of};
+ghost use Rattle.seg_text.specs.Filled.{WritesBoth, WritesPlaces};
 ghost use Rattle.seg_text.specs.Boundaries.{GivesNext, IsCover, offsets_left};
-ghost use Rattle.seg_clusters.specs.Rules.{rules_of, owned_rules, ResetsAfter, boundaries_of, machine_in};
+ghost use Rattle.seg_clusters.specs.Rules.{HasRows, rules_of, owned_rules, ResetsAfter, boundaries_of, machine_in};
 ghost use Rattle.seg_memo.specs.Memos.{IsMemoRefusal, IsNewMemo};
 
 use crate::resets::is_reset;
-use seg_machine::rule_segmenter_v2;
 use seg_machine::tailored_machine::{TailoredMachine, TailoredMachineBorrowed};
 use seg_memo::memo::{MemoBreakIterator, MemoError};
 use seg_memo::reader::CountedTransitions;
 use seg_pairs::pair_data::{PairData, PairDataBorrowed};
 use seg_pairs::rule_segmenter_v1;
+use seg_rows::rule_segmenter_v2;
 use seg_text::cursor::Cursor;
+use seg_text::reach::{BoundarySource, write_both, write_places};
 use std::alloc::{AllocError, Global};
 use std::marker::Model;
 
@@ -38,6 +40,19 @@ impl Drop for OwnedEngine {
 }
 
 impl OwnedEngine {
+    /// Makes the dense rows of its machine, by which many boundaries are found at a time; a pair table needs none. Fails only when out of
+    /// memory: then it stays as it was.
+    pub fn make_rows(&mut self, alloc: Global) -> Result<(), AllocError>
+        ensures rules { owned_rules self.new ≡ owned_rules self.old }
+        ensures made { IfOk result (λ _. HasRows self.new) }
+        ensures kept { IfErr result (λ _. self.new ≡ self.old) }
+    {
+        match self {
+            OwnedEngine::Classic(_) => Ok(()),
+            OwnedEngine::Neo(machine) => machine.make_rows(alloc),
+        }
+    }
+
     /// This engine, borrowed.
     pub fn as_borrowed(&self) -> Engine<'_>
         ensures { rules_of result ≡ owned_rules self.now }
@@ -153,6 +168,50 @@ impl<'data, I: Cursor> Boundaries<'data, I> {
                 by: BoundariesBy::Neo(engine.fork()),
             },
         }
+    }
+}
+
+impl<'data, I: Cursor> BoundarySource for Boundaries<'data, I> {
+    ghost remainder = { λ s. s };
+
+    #[inline(always)]
+    fn next_boundary(&mut self) -> Option<usize> {
+        self.next()
+    }
+
+    fn last_status(&self) -> u8 {
+        self.status()
+    }
+
+    fn fork(&self) -> Self {
+        self.fork()
+    }
+}
+
+impl<'data, I: Cursor> Boundaries<'data, I> {
+    /// Writes the places of the next boundaries over the first of `places`, as many as there are and there is room for, and returns
+    /// how many: by the rows of a machine that has them. Takes no memory.
+    pub fn fill(&mut self, places: &mut [usize]) -> usize
+        ensures { WritesPlaces self.old self.new places.old places.new result }
+    {
+        if let BoundariesBy::Neo(engine) = &mut self.by {
+            if let Some(count) = engine.fill(places) {
+                return count;
+            }
+        }
+        write_places(self, places)
+    }
+
+    /// Writes the places of the next boundaries and their statuses, as many as both buffers have room for. Takes no memory.
+    pub fn fill_both(&mut self, places: &mut [usize], statuses: &mut [u8]) -> usize
+        ensures { WritesBoth (min (length places.old) (length statuses.old)) self.old self.new places.old places.new statuses.old statuses.new result }
+    {
+        if let BoundariesBy::Neo(engine) = &mut self.by {
+            if let Some(count) = engine.fill_both(places, statuses) {
+                return count;
+            }
+        }
+        write_both(self, places, statuses)
     }
 }
 

@@ -1,13 +1,14 @@
 //! The segmenters of grapheme clusters (UAX #29), by a pair table or by a machine: what a reader takes for one character.
 
-ghost use Rattle.std.specs.Prelude.{◌≡◌, ◌↔◌, ℕ, None, List, length, IfOk, IfErr, IsOkAnd, IsTrue};
+ghost use Rattle.std.specs.Prelude.{◌≡◌, ◌↔◌, ℕ, None, List, length, min, IfOk, IfErr, IsOkAnd, IsTrue};
 ghost use Rattle.std.specs.Iterator.{YieldsFirst, item_count};
 ghost use Rattle.seg_text.specs.Items.{start_of};
 ghost use Rattle.seg_text.specs.Decoding.{latin1, utf8, utf16};
 ghost use Rattle.seg_text.specs.Boundaries.{IsCover};
+ghost use Rattle.seg_text.specs.Filled.{WritesBoth, WritesPlaces};
 ghost use Rattle.seg_data.specs.Faults.{IsFaultless, IsLowestFault};
 ghost use Rattle.seg_pairs.specs.PairData.{HasPairDataFault};
-ghost use Rattle.seg_clusters.specs.Rules.{rules_of, ResetsAfter, boundaries_of, machine_in};
+ghost use Rattle.seg_clusters.specs.Rules.{HasRows, rules_of, ResetsAfter, boundaries_of, machine_in};
 ghost use Rattle.seg_clusters.specs.Rules.Rules.{ByTable, ByMachine};
 ghost use Rattle.seg_memo.specs.Memos.{IsMemoRefusal, IsNewMemo};
 
@@ -67,6 +68,24 @@ impl<'data, I: Cursor> GraphemeClusterBreakIterator<'data, I> {
         ensures rejected { IfErr result (IsMemoRefusal (machine_in (cluster_finder self.now)) ⊥ (I.text (clusters_source self.now))) }
     {
         self.engine.memoised(alloc, self.whole.fork())
+    }
+
+    /// Writes the places of the next boundaries over the first of `places`, as many as there are and there is room for, and returns how
+    /// many. The next call goes on behind them. Takes no memory.
+    pub fn fill(&mut self, places: &mut [usize]) -> usize
+        ensures written { WritesPlaces self.old.boundaries self.new.boundaries places.old places.new result }
+        ensures source { (cluster_finder self.new ≡ cluster_finder self.old) × (clusters_source self.new ≡ clusters_source self.old) }
+    {
+        self.boundaries.fill(places)
+    }
+
+    /// Writes the places of the next boundaries and their statuses, as many as both buffers have room for, as `fill` does.
+    pub fn fill_both(&mut self, places: &mut [usize], statuses: &mut [u8]) -> usize
+        ensures written { WritesBoth (min (length places.old) (length statuses.old)) self.old.boundaries self.new.boundaries
+            places.old places.new statuses.old statuses.new result }
+        ensures source { (cluster_finder self.new ≡ cluster_finder self.old) × (clusters_source self.new ≡ clusters_source self.old) }
+    {
+        self.boundaries.fill_both(places, statuses)
     }
 }
 
@@ -148,6 +167,16 @@ impl GraphemeClusterSegmenter {
         Ok(GraphemeClusterSegmenter {
             engine: OwnedEngine::Neo(TailoredMachine::without_tailoring(machine)),
         })
+    }
+
+    /// Makes the dense rows of its machine, by which `fill` and what stands on it find boundaries about twice as fast; by a pair table there
+    /// is nothing to make. Fails only when out of memory: then it stays as it was.
+    pub fn make_rows(&mut self, alloc: Global) -> Result<(), AllocError>
+        ensures rules { owned_cluster_rules self.new ≡ owned_cluster_rules self.old }
+        ensures made { IfOk result (λ _. HasRows self.new.engine) }
+        ensures kept { IfErr result (λ _. self.new ≡ self.old) }
+    {
+        self.engine.make_rows(alloc)
     }
 
     /// This segmenter over borrowed data, which segments texts.

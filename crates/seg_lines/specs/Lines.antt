@@ -1,5 +1,5 @@
 -- Lines: what finds their breaks, the faults of its data, and what is seen of segmenters and iterators.
-use Rattle.std.specs.Prelude.{◌≡◌, ◌⊎◌, ℕ, ◌==◌, Bool, Option, Some, None, List}
+use Rattle.std.specs.Prelude.{⊤, ◌≡◌, ◌⊎◌, IsTrue, ℕ, ◌==◌, Bool, Option, Some, None, List}
 use Rattle.seg_text.specs.declared.boundary.Boundary.{Boundary}
 use Rattle.seg_text.specs.Boundaries.{offsets, Remainder}
 use Rattle.seg_data.specs.declared.provider.DataError.{DataError}
@@ -7,8 +7,10 @@ use Rattle.seg_data.specs.declared.provider.DataError.TheVariants.{ComplexBelow0
 use Rattle.seg_data.specs.ScriptWords.{ScriptWords, no_words, script_words}
 use Rattle.seg_machine.specs.Machine.{Machine, MachineTailoring, with_tailoring}
 use Rattle.seg_machine.specs.MachineFaults.{HasComplexBelow0100, HasTailoringFault}
-use Rattle.seg_machine.specs.Tailored.{machine_of, owned_machine}
+use Rattle.seg_machine.specs.Tailored.{has_rows, machine_of, owned_machine}
+use Rattle.seg_clusters.specs.Rules.{HasRows}
 use Rattle.seg_clusters.specs.Rules.Rules.{ByMachine as ByClusterMachine}
+use Rattle.seg_clusters.specs.declared.grapheme.GraphemeClusterSegmenter.{GraphemeClusterSegmenter}
 use Rattle.seg_clusters.specs.Clusters.{owned_cluster_rules}
 use Rattle.seg_clusters.specs.Payloads.{payloads_of}
 use Rattle.seg_line_rules.specs.LineBoundaries.{owned_rules_by, rules_by}
@@ -82,6 +84,17 @@ owned_line_rules segmenter = record {
   finder = owned_finder segmenter.finder;
   payloads = record { words = script_words segmenter.dictionaries; clusters = owned_cluster_rules segmenter.clusters };
 }
+
+-- the dense rows of the machine that finds the breaks were made: that of lines or that of clusters. A pair table needs none
+abbrev pub have_rows : OwnedFinder → GraphemeClusterSegmenter → Type 0
+have_rows OwnedClusters clusters = HasRows clusters.engine
+have_rows (OwnedMachine machine) clusters = IsTrue (has_rows machine)
+have_rows OwnedPlaces clusters = ⊤
+have_rows (OwnedTable pairs) clusters = ⊤
+have_rows (OwnedTurns pairs) clusters = ⊤
+
+abbrev pub HasLineRows : LineSegmenter → Type 0
+HasLineRows segmenter = have_rows segmenter.finder segmenter.clusters
 
 -- the boundaries that an iterator has still to give, and their places
 abbrev pub lines_left : {I : Type 0} → LineBreakIterator I → List Boundary

@@ -21,7 +21,7 @@ use seg_line_turns::boundaries::turn_lines;
 use seg_line_turns::turn_events::TurnEvents;
 use seg_machine::tailored_machine::TailoredMachineBorrowed;
 use seg_text::cursor::Cursor;
-use seg_text::reach::{BoundarySource, HintedBoundaries};
+use seg_text::reach::{BoundarySource, BufferSource, HintedBoundaries, write_both, write_places};
 
 /// The boundaries of lines in a text, as places.
 #[derive(Debug, Drop)]
@@ -118,6 +118,22 @@ impl<'data, I: Cursor> BoundarySource for LineBoundaries<'data, I> {
             LineBoundaries::Classic(engine) => LineBoundaries::Classic(engine.fork()),
             LineBoundaries::Turns(engine) => LineBoundaries::Turns(engine.fork()),
             LineBoundaries::Joined(engine) => LineBoundaries::Joined(engine.fork()),
+        }
+    }
+}
+
+impl<'data, I: Cursor> BufferSource for LineBoundaries<'data, I> {
+    fn fill(&mut self, places: &mut [usize]) -> usize {
+        match self {
+            LineBoundaries::Plain(engine) => engine.fill(places),
+            _ => write_places(self, places),
+        }
+    }
+
+    fn fill_both(&mut self, places: &mut [usize], statuses: &mut [u8]) -> usize {
+        match self {
+            LineBoundaries::Plain(engine) => engine.fill_both(places, statuses),
+            _ => write_both(self, places, statuses),
         }
     }
 }

@@ -1,8 +1,9 @@
 //! Lines: where a text may be broken into lines, and where it must be.
-ghost use Rattle.std.specs.Prelude.{◌≡◌, ◌≢◌, ◌↔◌, false, length, IfOk, IfErr, IsTrue};
+ghost use Rattle.std.specs.Prelude.{◌≡◌, ◌≢◌, ◌↔◌, false, length, min, IfOk, IfErr, IsTrue};
 ghost use Rattle.std.specs.Iterator.{YieldsFirst, item_count};
 ghost use Rattle.seg_text.specs.Items.{start_of};
 ghost use Rattle.seg_text.specs.Boundaries.{IsCover};
+ghost use Rattle.seg_text.specs.Filled.{WritesBoth, WritesPlaces};
 ghost use Rattle.seg_text.specs.Decoding.{latin1, utf8, utf16};
 ghost use Rattle.seg_data.specs.Faults.{IsFaultless, IsLowestFault};
 ghost use Rattle.seg_memo.specs.Memos.{IsMemoRefusal, IsNewMemo};
@@ -102,6 +103,24 @@ impl<'data, I: Cursor> LineBreakIterator<'data, I> {
         let text = self.whole.fork();
         memoised(alloc, self.segmenter.finder, self.segmenter.payloads, text)
     }
+
+    /// Writes the places of the next boundaries over the first of `places`, as many as there are and there is room for, and returns how
+    /// many. The next call goes on behind them. Takes no memory.
+    pub fn fill(&mut self, places: &mut [usize]) -> usize
+        ensures written { WritesPlaces self.old.boundaries self.new.boundaries places.old places.new result }
+        ensures source { (line_finder self.new ≡ line_finder self.old) × (lines_source self.new ≡ lines_source self.old) }
+    {
+        self.boundaries.fill(places)
+    }
+
+    /// Writes the places of the next boundaries and their statuses, as many as both buffers have room for, as `fill` does.
+    pub fn fill_both(&mut self, places: &mut [usize], statuses: &mut [u8]) -> usize
+        ensures written { WritesBoth (min (length places.old) (length statuses.old)) self.old.boundaries self.new.boundaries
+            places.old places.new statuses.old statuses.new result }
+        ensures source { (line_finder self.new ≡ line_finder self.old) × (lines_source self.new ≡ lines_source self.old) }
+    {
+        self.boundaries.fill_both(places, statuses)
+    }
 }
 
 impl<'data, I: Cursor> Clone for LineBreakIterator<'data, I> {
@@ -167,7 +186,7 @@ impl Drop for LineSegmenter {
 }
 
 impl LineSegmenter {
-    ghost use Rattle.seg_lines.specs.Lines.{owned_line_rules, chosen_rules, without_ja, HasLineFault};
+    ghost use Rattle.seg_lines.specs.Lines.{HasLineRows, owned_line_rules, chosen_rules, without_ja, HasLineFault};
 
     /// A segmenter by a pair table of lines, or, where the strictness is `Anywhere`, by that of clusters alone; by neither a
     /// break is mandatory. A run of complex characters (those of the class `complex_property`, as the options read it) may also
@@ -268,6 +287,20 @@ impl LineSegmenter {
         ensures { owned_line_rules self.new ≡ lines_with_words (owned_line_rules self.old) (filled (owned_line_rules self.old).payloads.words (without_ja (script_words dictionaries))) }
     {
         self.dictionaries.fill(without_ja(dictionaries));
+    }
+
+    /// Makes the dense rows of its machine, by which `fill` and what stands on it find boundaries about twice as fast; by a pair table there
+    /// is nothing to make. Fails only when out of memory: then it stays as it was.
+    pub fn make_rows(&mut self, alloc: Global) -> Result<(), AllocError>
+        ensures rules { owned_line_rules self.new ≡ owned_line_rules self.old }
+        ensures made { IfOk result (λ _. HasLineRows self.new) }
+        ensures kept { IfErr result (λ _. self.new ≡ self.old) }
+    {
+        match &mut self.finder {
+            OwnedFinder::Machine(machine) => machine.make_rows(alloc),
+            OwnedFinder::Clusters => self.clusters.make_rows(alloc),
+            OwnedFinder::Places | OwnedFinder::Table(_) | OwnedFinder::Turns(_) => Ok(()),
+        }
     }
 
     /// This segmenter over borrowed data, which segments texts.

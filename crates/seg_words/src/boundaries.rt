@@ -14,10 +14,10 @@ use crate::classic::ClassicBoundaries;
 use crate::neo::NeoBoundaries;
 use seg_clusters::complex::ComplexPayloadsBorrowed;
 use seg_clusters::engine::Engine;
-use seg_machine::rule_segmenter_v2::RuleBreakIterator;
 use seg_machine::tailored_machine::TailoredMachineBorrowed;
+use seg_rows::rule_segmenter_v2::RuleBreakIterator;
 use seg_text::cursor::Cursor;
-use seg_text::reach::{BoundarySource, HintedBoundaries};
+use seg_text::reach::{BoundarySource, BufferSource, HintedBoundaries, write_both, write_places};
 
 /// The boundaries of words in a text, as places.
 #[derive(Debug, Drop)]
@@ -102,5 +102,26 @@ impl<'data, I: Cursor> BoundarySource for WordBoundaries<'data, I> {
             WordBoundaries::Neo(engine) => WordBoundaries::Neo(engine.fork()),
             WordBoundaries::NeoWithWords(engine) => WordBoundaries::NeoWithWords(engine.fork()),
         }
+    }
+}
+
+impl<'data, I: Cursor> BufferSource for WordBoundaries<'data, I> {
+    // By the rows of a machine that has them, where no script has words.
+    fn fill(&mut self, places: &mut [usize]) -> usize {
+        if let WordBoundaries::Neo(engine) = self {
+            if let Some(count) = engine.fill(places) {
+                return count;
+            }
+        }
+        write_places(self, places)
+    }
+
+    fn fill_both(&mut self, places: &mut [usize], statuses: &mut [u8]) -> usize {
+        if let WordBoundaries::Neo(engine) = self {
+            if let Some(count) = engine.fill_both(places, statuses) {
+                return count;
+            }
+        }
+        write_both(self, places, statuses)
     }
 }

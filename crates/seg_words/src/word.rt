@@ -1,13 +1,14 @@
 //! Words: the places between which a text's words stand, and which of what stands between two is a word (UAX #29).
 
-ghost use Rattle.std.specs.Prelude.{◌≡◌, ◌≢◌, ◌↔◌, length, None, IfOk, IfErr, IsTrue};
+ghost use Rattle.std.specs.Prelude.{◌≡◌, ◌≢◌, ◌↔◌, length, min, None, IfOk, IfErr, IsTrue};
 ghost use Rattle.std.specs.Iterator.{YieldsFirst, item_count};
 ghost use Rattle.seg_text.specs.Items.{start_of};
 ghost use Rattle.seg_text.specs.Decoding.{latin1, utf8, utf16};
 ghost use Rattle.seg_text.specs.Boundaries.{IsCover};
+ghost use Rattle.seg_text.specs.Filled.{WritesBoth, WritesPlaces};
 ghost use Rattle.seg_data.specs.Faults.{IsFaultless, IsLowestFault};
 ghost use Rattle.seg_pairs.specs.PairTable.{table_in};
-ghost use Rattle.seg_clusters.specs.Rules.{machine_in};
+ghost use Rattle.seg_clusters.specs.Rules.{HasRows, machine_in};
 ghost use Rattle.seg_memo.specs.Memos.{IsMemoRefusal, IsNewMemo};
 ghost use Rattle.seg_data.specs.ScriptWords.{filled, borrowed_words, no_words, script_words};
 ghost use Rattle.seg_words.specs.WordRules.{WordsResetAfter, is_word_like, machine_words, table_words, type_of, with_words, word_boundaries_of};
@@ -72,7 +73,7 @@ impl WordType {
 }
 
 /// The type of what ends at a boundary with this status: `None` of 0, `Number` of 1 and `Letter` of any other.
-fn type_of(status: u8) -> WordType
+pub fn type_of(status: u8) -> WordType
     ensures { result ≡ type_of status }
 {
     match status {
@@ -153,6 +154,24 @@ impl<'data, I: Cursor> WordBreakIterator<'data, I> {
         self.segmenter
             .payloads
             .memoised(alloc, self.segmenter.engine, text)
+    }
+
+    /// Writes the places of the next boundaries over the first of `places`, as many as there are and there is room for, and returns how
+    /// many. The next call goes on behind them. Takes no memory.
+    pub fn fill(&mut self, places: &mut [usize]) -> usize
+        ensures written { WritesPlaces self.old.boundaries self.new.boundaries places.old places.new result }
+        ensures source { (word_finder self.new ≡ word_finder self.old) × (words_source self.new ≡ words_source self.old) }
+    {
+        self.boundaries.fill(places)
+    }
+
+    /// Writes the places of the next boundaries and their statuses, as many as both buffers have room for, as `fill` does.
+    pub fn fill_both(&mut self, places: &mut [usize], statuses: &mut [u8]) -> usize
+        ensures written { WritesBoth (min (length places.old) (length statuses.old)) self.old.boundaries self.new.boundaries
+            places.old places.new statuses.old statuses.new result }
+        ensures source { (word_finder self.new ≡ word_finder self.old) × (words_source self.new ≡ words_source self.old) }
+    {
+        self.boundaries.fill_both(places, statuses)
     }
 
     // What is left of the boundaries, once more.
@@ -351,6 +370,16 @@ impl WordSegmenter {
             clusters: GraphemeClusterSegmenter::try_new(clusters)?,
             dictionaries: Dictionaries::none(),
         })
+    }
+
+    /// Makes the dense rows of its machine, by which `fill` and what stands on it find boundaries about twice as fast; by a pair table there
+    /// is nothing to make. Fails only when out of memory: then it stays as it was.
+    pub fn make_rows(&mut self, alloc: Global) -> Result<(), AllocError>
+        ensures rules { owned_word_rules self.new ≡ owned_word_rules self.old }
+        ensures made { IfOk result (λ _. HasRows self.new.engine) }
+        ensures kept { IfErr result (λ _. self.new ≡ self.old) }
+    {
+        self.engine.make_rows(alloc)
     }
 
     /// This segmenter over borrowed data, which segments texts.
