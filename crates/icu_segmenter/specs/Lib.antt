@@ -53,6 +53,6 @@ pub use Rattle.seg_segments.specs.Abbreviations
 pub use Rattle.seg_segments.specs.TextSegments
 pub use Rattle.seg_segments.specs.SegmentsLeft
 pub use Rattle.seg_segments.specs.NearBoundaries
-pub use Rattle.seg_segments.specs.Filled
+pub use Rattle.seg_text.specs.Filled
 pub use Rattle.seg_segments.specs.SuppressedLeft
 pub use Rattle.seg_segments.specs.Suppressing

@@ -106,7 +106,7 @@ pub mod rule_segmenter_v2 {
     use seg_text::scaffold::RuleBreakType;
 
     /// The boundaries of a text in the encoding `Y`, by a machine.
-    pub type RuleBreakIterator<'data, 's, Y> = seg_machine::rule_segmenter_v2::RuleBreakIterator<
+    pub type RuleBreakIterator<'data, 's, Y> = seg_rows::rule_segmenter_v2::RuleBreakIterator<
         'data,
         <Y as RuleBreakType<'s>>::IterAttr,
     >;

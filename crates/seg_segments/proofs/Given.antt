@@ -1,12 +1,23 @@
 -- What iterators of boundaries give, one after another.
-use Rattle.std.proofs.Common.{◌≡◌, ℕ, ◌≤◌, List, [], ◌∷◌, map, drop, refl, sym, ap, ◌∙◌}
+use Rattle.std.proofs.Common.{◌≡◌, ℕ, ◌+◌, ◌≤◌, List, [], ◌∷◌, length, map, drop, arith, refl, sym, ap, ◌∙◌}
 use Rattle.std.specs.Prelude.{Option, Some, None}
 use Rattle.std.specs.Iterator.{YieldsFirst}
 use Rattle.std.proofs.lemmas.List.{drop-map}
 use Rattle.seg_text.specs.declared.boundary.Boundary.{Boundary}
-use Rattle.seg_text.specs.Boundaries.{IsCover, RisesTo, offsets}
+use Rattle.seg_text.specs.Boundaries.{IsCover, Remainder, RisesTo, offsets}
+use Rattle.seg_text.specs.Filled.{after_given}
 use Rattle.seg_segments.specs.TextSegments.{marked}
 use Rattle.seg_text.proofs.Covers.{rises-le}
+use Rattle.seg_text.proofs.Hints.{rising-few}
+
+-- a cover has at most one boundary more than there are units
+pub cover-few : (boundaries : List Boundary) (end : ℕ) → IsCover 0 end boundaries → length boundaries ≤ end + 1
+cover-few [] end cover = absurd cover
+cover-few (found ∷ boundaries) end (first, rises) = omega (arith, rising-few boundaries 0 end rises)
+
+-- so many boundaries were written, and these are left
+pub left-given : (room count : ℕ) (before after : Remainder) → after ≡ after_given room count before → after.left ≡ drop count before.left
+left-given room count before after is = ap (λ (r : Remainder). r.left) is
 
 -- places that a number may be added to
 unfoldable pub AreUpTo : ℕ → List ℕ → Type 0
@@ -38,6 +49,11 @@ module _ {M S : Type 0} (mark : ℕ → M) (left : S → List Boundary) where
   offsets-marked : (boundaries : List Boundary) → offsets boundaries ≡ map (λ (one : ℕ × M). one.0) (marked mark boundaries)
   offsets-marked [] = refl
   offsets-marked (found ∷ boundaries) = ap (λ places. found.offset ∷ places) (offsets-marked boundaries)
+
+  -- so many are gone
+  pub marked-given : (room count : ℕ) (before after : Remainder) → after ≡ after_given room count before → marked mark after.left ≡ drop count (marked mark before.left)
+  marked-given room count before after is =
+      ap (marked mark) (left-given room count before after is) ∙ sym (drop-map (λ (found : Boundary). (found.offset, mark found.status)) count before.left)
 
   -- the first is gone
   pub marked-behind : (s t : S) (given : Option (ℕ × M)) → YieldsFirst all s given t → all t ≡ drop 1 (all s)

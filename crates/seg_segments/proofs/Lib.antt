@@ -5,7 +5,6 @@ mod Hints
 mod Nearest
 mod Parts
 pub mod Given
-pub mod Filling
 mod Suppressing
 mod Sources
 mod Beginnings
@@ -13,3 +12,4 @@ mod Reading
 mod Texts
 mod Feeds
 mod Exact
+mod Held

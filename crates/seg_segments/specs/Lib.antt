@@ -5,6 +5,5 @@ pub mod Abbreviations
 pub mod TextSegments
 pub mod SegmentsLeft
 pub mod NearBoundaries
-pub mod Filled
 pub mod SuppressedLeft
 pub mod Suppressing

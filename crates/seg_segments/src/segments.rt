@@ -9,23 +9,25 @@
 //! words.segment_str("one 42.").words()                (0, "one", Letter) (4, "42", Number)
 //! ```
 
-ghost use Rattle.std.specs.Prelude.{◌≡◌, ℕ, ◌<◌, ◌≤◌, ⊤, List, All, drop, length};
+ghost use Rattle.std.specs.Prelude.{◌≡◌, ℕ, ◌<◌, ◌≤◌, ⊤, List, All, drop, length, min};
 ghost use Rattle.std.specs.List.{flat_map};
 ghost use Rattle.std.specs.Iterator.{YieldsFirst, YieldsFirstBy, item_count};
 ghost use Rattle.seg_text.specs.declared.boundary.Boundary.{Boundary};
 ghost use Rattle.seg_text.specs.Boundaries.{boundaries_in, offsets, IsCover};
 ghost use Rattle.seg_text.specs.Items.{Text};
-ghost use Rattle.seg_segments.specs.Filled.{IsFilled};
+ghost use Rattle.seg_text.specs.Filled.{IsFilled, TakesFirst, statuses as all_statuses};
 ghost use Rattle.seg_segments.specs.TextSegments.{indices_of, marked, segments_of, units_of, words_of, AreSegments, IsPlace};
 ghost use Rattle.seg_segments.specs.SegmentsLeft.{indices_left, segments_left, words_left};
 
 mod cluster_breaks;
 mod line_breaks;
+mod places;
 mod sentence_breaks;
 mod source;
 mod units;
 mod word_breaks;
 
+pub use places::Places;
 use seg_words::word::WordType;
 pub use source::Source;
 use std::alloc::AllocError;
@@ -73,7 +75,7 @@ pub trait BreakIterator: Drop + Sized {
 
     /// Writes the places of the next boundaries over the first of `places`, as many as there are and there is room for, and returns
     /// how many. The next call goes on behind them. Takes no memory.
-    final fn fill(&mut self, places: &mut [usize]) -> usize
+    fn fill(&mut self, places: &mut [usize]) -> usize
         ensures filled { IsFilled (offsets (left self.old)) places.old places.new result }
         ensures left { marked mark (left self.new) ≡ drop result (marked mark (left self.old)) }
     {
@@ -98,6 +100,13 @@ pub trait BreakIterator: Drop + Sized {
             }
         }
         found.len()
+    }
+
+    /// The places of the boundaries that are left, found many at a time. Takes no memory.
+    final fn into_places(self) -> Places<Self>
+        ensures { result ≡ offsets (left self) }
+    {
+        Places::new(self)
     }
 
     /// Law: a text may be cut at the places of its items.
@@ -159,6 +168,20 @@ fn copy_of<T: Clone>(value: &T) -> T
         unreachable!()
     };
     copy
+}
+
+/// An iterator over the boundaries of a text which gives their statuses as they are, and says what each means.
+pub trait StatusBreaks: BreakIterator {
+    /// What a status says.
+    fn mark_of(status: u8) -> Self::Mark
+        ensures { result ≡ Self.mark status };
+
+    /// Writes the places of the next boundaries over the first of `places` and their statuses over the first of `statuses`, as many as
+    /// there are and both have room for, and returns how many. The next call goes on behind them. Takes no memory.
+    fn fill_both(&mut self, places: &mut [usize], statuses: &mut [u8]) -> usize
+        ensures places { TakesFirst (min (length places.old) (length statuses.old)) (offsets (Self.left self.old)) places.old places.new result }
+        ensures marks { TakesFirst (min (length places.old) (length statuses.old)) (all_statuses (Self.left self.old)) statuses.old statuses.new result }
+        ensures left { Self.left self.new ≡ drop result (Self.left self.old) };
 }
 
 /// An iterator over the boundaries of words.

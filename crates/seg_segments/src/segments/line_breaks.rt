@@ -1,10 +1,10 @@
 //! The boundaries of lines, each with whether a line must end there.
 
-ghost use Rattle.std.specs.Prelude.{◌==◌};
+ghost use Rattle.std.specs.Prelude.{◌≡◌, ◌==◌};
 ghost use Rattle.seg_lines.specs.LineBreaks.{line_boundaries_by};
 ghost use Rattle.seg_lines.specs.Lines.{line_finder, lines_left, lines_source};
 
-use crate::segments::{BreakIterator, Source, copy_of};
+use crate::segments::{BreakIterator, Source, StatusBreaks, copy_of};
 use seg_lines::line::LineBreakIterator;
 
 impl<'data, I: Source> BreakIterator for LineBreakIterator<'data, I> {
@@ -34,7 +34,23 @@ impl<'data, I: Source> BreakIterator for LineBreakIterator<'data, I> {
         Some((place, self.is_mandatory()))
     }
 
+    fn fill(&mut self, places: &mut [usize]) -> usize {
+        self.fill(places)
+    }
+
     fn fork(&self) -> Self {
         copy_of(self)
+    }
+}
+
+impl<'data, I: Source> StatusBreaks for LineBreakIterator<'data, I> {
+    fn mark_of(status: u8) -> bool
+        ensures { result ≡ (status == 1) }
+    {
+        status == 1
+    }
+
+    fn fill_both(&mut self, places: &mut [usize], statuses: &mut [u8]) -> usize {
+        self.fill_both(places, statuses)
     }
 }

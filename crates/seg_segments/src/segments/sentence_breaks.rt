@@ -1,10 +1,11 @@
 //! The boundaries of sentences.
 
+ghost use Rattle.std.specs.Prelude.{◌≡◌};
 ghost use Rattle.seg_clusters.specs.Rules.{boundaries_by};
 ghost use Rattle.seg_clusters.specs.Clusters.{sentence_finder, sentences_left, sentences_source};
 ghost use Rattle.seg_segments.specs.TextSegments.{nothing};
 
-use crate::segments::{BreakIterator, Source, copy_of};
+use crate::segments::{BreakIterator, Source, StatusBreaks, copy_of};
 use seg_clusters::sentence::SentenceBreakIterator;
 
 impl<'data, I: Source> BreakIterator for SentenceBreakIterator<'data, I> {
@@ -34,7 +35,23 @@ impl<'data, I: Source> BreakIterator for SentenceBreakIterator<'data, I> {
         Some((place, ()))
     }
 
+    fn fill(&mut self, places: &mut [usize]) -> usize {
+        self.fill(places)
+    }
+
     fn fork(&self) -> Self {
         copy_of(self)
+    }
+}
+
+impl<'data, I: Source> StatusBreaks for SentenceBreakIterator<'data, I> {
+    fn mark_of(status: u8)
+        ensures { result ≡ nothing status }
+    {
+        let _ = status;
+    }
+
+    fn fill_both(&mut self, places: &mut [usize], statuses: &mut [u8]) -> usize {
+        self.fill_both(places, statuses)
     }
 }

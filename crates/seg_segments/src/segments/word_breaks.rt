@@ -1,10 +1,11 @@
 //! The boundaries of words, each with the type of what ends there.
 
+ghost use Rattle.std.specs.Prelude.{◌≡◌};
 ghost use Rattle.seg_words.specs.WordRules.{type_of, word_boundaries_by};
 ghost use Rattle.seg_words.specs.Words.{word_finder, words_left, words_source};
 
-use crate::segments::{BreakIterator, Source, WordBreaks, copy_of};
-use seg_words::word::{WordBreakIterator, WordType};
+use crate::segments::{BreakIterator, Source, StatusBreaks, WordBreaks, copy_of};
+use seg_words::word::{WordBreakIterator, WordType, type_of};
 
 impl<'data, I: Source> BreakIterator for WordBreakIterator<'data, I> {
     type Units = I::Units;
@@ -33,8 +34,24 @@ impl<'data, I: Source> BreakIterator for WordBreakIterator<'data, I> {
         Some((place, self.word_type()))
     }
 
+    fn fill(&mut self, places: &mut [usize]) -> usize {
+        self.fill(places)
+    }
+
     fn fork(&self) -> Self {
         copy_of(self)
+    }
+}
+
+impl<'data, I: Source> StatusBreaks for WordBreakIterator<'data, I> {
+    fn mark_of(status: u8) -> WordType
+        ensures { result ≡ type_of status }
+    {
+        type_of(status)
+    }
+
+    fn fill_both(&mut self, places: &mut [usize], statuses: &mut [u8]) -> usize {
+        self.fill_both(places, statuses)
     }
 }
 

@@ -1,6 +1,6 @@
 use Rattle.std.proofs.Common.{sym, ◌∙◌}
 use Rattle.seg_segments.specs.TextSegments.{marked}
-use Rattle.seg_segments.proofs.Filling.{went-on, at-end, behind}
+use Rattle.seg_text.proofs.Filling.{went-on, at-end, behind}
 use Rattle.seg_segments.proofs.Given.{offsets-next, offsets-none}
 use Rattle.seg_segments.proofs.segments.BreakIterator.fill.Goals as goal
 

@@ -3,7 +3,7 @@ use Rattle.std.proofs.Common.{◌≡◌}
 use Rattle.std.specs.Prelude.{drop}
 use Rattle.seg_text.specs.Boundaries.{offsets}
 use Rattle.seg_segments.specs.TextSegments.{marked}
-use Rattle.seg_segments.proofs.Filling.{Filling}
+use Rattle.seg_text.proofs.Filling.{Filling}
 use Rattle.seg_segments.proofs.segments.BreakIterator.fill.Given as goal
 
 abbrev pub invariant-loop-index : goal.invariant-loop-index

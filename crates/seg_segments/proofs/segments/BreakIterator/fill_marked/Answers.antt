@@ -1,4 +1,4 @@
-use Rattle.seg_segments.proofs.Filling.{begun, went-on, at-end}
+use Rattle.seg_text.proofs.Filling.{begun, went-on, at-end}
 use Rattle.std.proofs.Common.{refl}
 use Rattle.seg_segments.proofs.segments.BreakIterator.fill_marked.Goals as goal
 

@@ -1,6 +1,6 @@
 -- So many boundaries were written, and they are gone.
 use Rattle.seg_segments.specs.TextSegments.{marked}
-use Rattle.seg_segments.proofs.Filling.{Filling}
+use Rattle.seg_text.proofs.Filling.{Filling}
 use Rattle.seg_segments.proofs.segments.BreakIterator.fill_marked.Given as goal
 
 abbrev pub invariant-loop-index : goal.invariant-loop-index

@@ -12,6 +12,6 @@ invariant_of-self g c =
 
 pub invariant_of-self-2 : goal.invariant_of-self-2
 invariant_of-self-2 g c =
-    c.go_to.ensures 0 c.next_break.new.self
+    c.go_to.ensures.next 0 c.next_break.new.self
     (ahead-by c.self.inside.kept (boundary c.in_ok-place.place 0 ∷ c.next_break.new.self) _ _ _
     (next-place g.B.BreakIterator.mark c.self.inside.kept c.next_break.new.self c.in_ok-place.place c.in_ok-place.mark c.in_ok-place.ensures) c.self.invariant)
