@@ -36,6 +36,17 @@ pub fn grapheme_segmenter(alloc: Global) -> Result<GraphemeClusterSegmenter, Dat
     ensures clusters { IfOk result (λ clusters. FindsClusters (boundaries_by (owned_cluster_rules clusters))) }
     ensures rejected { IfErr result (λ fault. fault ≡ Memory) }
 {
+    let mut clusters = clusters_by_scans(alloc)?;
+    clusters.make_rows(alloc)?;
+    Ok(clusters)
+}
+
+// The segmenter without dense rows.
+fn clusters_by_scans(alloc: Global) -> Result<GraphemeClusterSegmenter, DataError>
+    ensures made { IfOk result (λ clusters. owned_cluster_rules clusters ≡ ByMachine cluster_machine) }
+    ensures clusters { IfOk result (λ clusters. FindsClusters (boundaries_by (owned_cluster_rules clusters))) }
+    ensures rejected { IfErr result (λ fault. fault ≡ Memory) }
+{
     clusters_are_uax29();
     GraphemeClusterSegmenter::try_new_neo(cluster_machine(alloc)?)
 }
@@ -43,6 +54,18 @@ pub fn grapheme_segmenter(alloc: Global) -> Result<GraphemeClusterSegmenter, Dat
 /// A segmenter of the words of UAX #29, as they are in Unicode 18.0, with their types. It has no dictionaries: `load_dictionary` takes
 /// them. The only error is `Memory`.
 pub fn word_segmenter(alloc: Global) -> Result<WordSegmenter, DataError>
+    ensures machines { IfOk result (λ words. owned_word_rules words ≡ machine_words typed_word_machine cluster_table no_words) }
+    ensures words { IfOk result (λ words. FindsWords (word_boundaries_by (owned_word_rules words))) }
+    ensures types { IfOk result (λ words. AreWords (owned_word_rules words)) }
+    ensures rejected { IfErr result (λ fault. fault ≡ Memory) }
+{
+    let mut words = words_by_scans(alloc)?;
+    words.make_rows(alloc)?;
+    Ok(words)
+}
+
+// The segmenter without dense rows.
+fn words_by_scans(alloc: Global) -> Result<WordSegmenter, DataError>
     ensures machines { IfOk result (λ words. owned_word_rules words ≡ machine_words typed_word_machine cluster_table no_words) }
     ensures words { IfOk result (λ words. FindsWords (word_boundaries_by (owned_word_rules words))) }
     ensures types { IfOk result (λ words. AreWords (owned_word_rules words)) }
@@ -63,6 +86,17 @@ pub fn sentence_segmenter(alloc: Global) -> Result<SentenceSegmenter, DataError>
     ensures sentences { IfOk result (λ sentences. FindsSentences (boundaries_by (owned_sentence_rules sentences))) }
     ensures rejected { IfErr result (λ fault. fault ≡ Memory) }
 {
+    let mut sentences = sentences_by_scans(alloc)?;
+    sentences.make_rows(alloc)?;
+    Ok(sentences)
+}
+
+// The segmenter without dense rows.
+fn sentences_by_scans(alloc: Global) -> Result<SentenceSegmenter, DataError>
+    ensures made { IfOk result (λ sentences. owned_sentence_rules sentences ≡ ByMachine sentence_machine) }
+    ensures sentences { IfOk result (λ sentences. FindsSentences (boundaries_by (owned_sentence_rules sentences))) }
+    ensures rejected { IfErr result (λ fault. fault ≡ Memory) }
+{
     sentences_are_uax29();
     let machine = sentence_machine(alloc)?;
     SentenceSegmenter::try_new_neo(machine, None, SentenceBreakOptions::default())
@@ -76,6 +110,17 @@ pub fn line_segmenter(
     alloc: Global,
     options: LineBreakOptions<'_>,
 ) -> Result<LineSegmenter, DataError>
+    ensures machines { IfOk result (λ lines. owned_line_rules lines ≡ chosen_rules line_machine line_tailorings cluster_machine (machine_choice options.entry)) }
+    ensures lines { IfOk result (λ lines. AreLines (owned_line_rules lines)) }
+    ensures rejected { IfErr result (λ fault. fault ≡ Memory) }
+{
+    let mut lines = lines_by_scans(alloc, options)?;
+    lines.make_rows(alloc)?;
+    Ok(lines)
+}
+
+// The segmenter without dense rows.
+fn lines_by_scans(alloc: Global, options: LineBreakOptions<'_>) -> Result<LineSegmenter, DataError>
     ensures machines { IfOk result (λ lines. owned_line_rules lines ≡ chosen_rules line_machine line_tailorings cluster_machine (machine_choice options.entry)) }
     ensures lines { IfOk result (λ lines. AreLines (owned_line_rules lines)) }
     ensures rejected { IfErr result (λ fault. fault ≡ Memory) }

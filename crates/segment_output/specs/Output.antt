@@ -38,6 +38,10 @@ is_shown alone mark = not alone || is_word mark
 abbrev pub segment_between : (ℕ × Mark) × (ℕ × Mark) → Segment
 segment_between (start, end) = record { from = start.0; to = end.0; mark = end.1 }
 
+-- places of which nothing is said
+abbrev pub unmarked : List ℕ → List (ℕ × Mark)
+unmarked places = map (λ (place : ℕ). (place, Unmarked)) places
+
 -- the segments between the boundaries of a text, which are neighbours, of which each says what ends there; all, or words alone
 abbrev pub segments : Bool → List (ℕ × Mark) → List Segment
 segments alone boundaries = map segment_between (filter (λ pair. is_shown alone pair.1.1) (zip boundaries (drop 1 boundaries)))

@@ -2,11 +2,11 @@
 ghost use Rattle.std.specs.Prelude.{◌≡◌, ◌==◌};
 ghost use Rattle.std.specs.Iterator.{YieldsFirst, item_count};
 ghost use Rattle.icu_segmenter.specs.TextSegments.{marked};
-ghost use Rattle.segment_output.specs.Output.{is_shown, is_word};
+ghost use Rattle.segment_output.specs.Output.{is_shown, is_word, unmarked};
 ghost use Rattle.segment_output.specs.declared.marks.Mark.TheVariants.{Unmarked, Word, Line, Rule};
 
 use icu_segmenter::options::WordType;
-use icu_segmenter::segments::BreakIterator;
+use icu_segmenter::segments::{BreakIterator, Places};
 
 /// What is said of a segment beside its places.
 #[derive(Clone, Copy, Debug, PartialEq, Eq)]
@@ -107,20 +107,20 @@ impl<M: HasMark, B: BreakIterator<Mark = M>> Iterator for Marked<B> {
 /// The boundaries that an iterator has still to give, each unmarked: what is said of the segments is never worked out.
 #[derive(Drop)]
 pub struct Bare<B: BreakIterator> {
-    pub breaks: B,
+    pub places: Places<B>,
 }
 
 impl<B: BreakIterator> Iterator for Bare<B> {
     type Item = (usize, Mark);
 
-    ghost next_gives = { YieldsFirst (λ s. marked (λ status. Unmarked) (B.left s.breaks)) };
+    ghost next_gives = { YieldsFirst (λ s. unmarked s.places) };
 
-    ghost remaining = { item_count (λ s. marked (λ status. Unmarked) (B.left s.breaks)) };
+    ghost remaining = { item_count (λ s. unmarked s.places) };
 
     #[inline(always)]
     fn next(&mut self) -> Option<(usize, Mark)> {
-        match self.breaks.next_break() {
-            Some(end) => Some((end.0, Mark::Unmarked)),
+        match self.places.next() {
+            Some(end) => Some((end, Mark::Unmarked)),
             None => None,
         }
     }

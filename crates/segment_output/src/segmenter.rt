@@ -100,7 +100,7 @@ impl Segmenter {
             }
             Segmenter::Words(words, alone) => {
                 let places = words.as_borrowed().segment_utf8(part.bytes);
-                print_words(alloc, places, *alone, part, out)
+                print_breaks(alloc, places, *alone, part, out)
             }
             Segmenter::Sentences(sentences) => {
                 let places = sentences.as_borrowed().segment_utf8(part.bytes);
@@ -122,9 +122,9 @@ impl Segmenter {
     }
 }
 
-// Writes the segments between the boundaries that come, or words alone.
+// Writes the segments between the boundaries that come, or words alone, with what is said of each.
 #[inline(always)]
-fn print_breaks<M: HasMark, B: BreakIterator<Mark = M>, O: Write>(
+fn print_marked<M: HasMark, B: BreakIterator<Mark = M>, O: Write>(
     alloc: Global,
     breaks: B,
     alone: bool,
@@ -139,9 +139,9 @@ fn print_breaks<M: HasMark, B: BreakIterator<Mark = M>, O: Write>(
     print_segments(alloc, &mut places, alone, part, out)
 }
 
-// Writes the segments between the boundaries of words that come, or words alone. Their types are worked out only where they are asked for.
+// Writes the segments between the boundaries that come, or words alone. What is said of each is worked out only where that is asked for.
 #[inline(always)]
-fn print_words<M: HasMark, B: BreakIterator<Mark = M>, O: Write>(
+fn print_breaks<M: HasMark, B: BreakIterator<Mark = M>, O: Write>(
     alloc: Global,
     breaks: B,
     alone: bool,
@@ -153,9 +153,11 @@ fn print_words<M: HasMark, B: BreakIterator<Mark = M>, O: Write>(
         (count ≡ length found) × Appends (O.contents out.old) (O.contents out.new) (lines_at (look_of part.entry) part.entry.before part.entry.bytes.now found)) }
 {
     if part.style.asks_marks(alone) {
-        return print_breaks(alloc, breaks, alone, part, out);
+        return print_marked(alloc, breaks, alone, part, out);
     }
-    let mut places = Bare { breaks };
+    let mut places = Bare {
+        places: breaks.into_places(),
+    };
     print_segments(alloc, &mut places, false, part, out)
 }
 
@@ -231,7 +233,7 @@ fn suppressing<'data>(
     }
 }
 
-// Drops an iterator. Of the boundaries that abbreviations leave, that is proved in generic code alone.
+// Drops an iterator.
 fn let_go<B: BreakIterator>(_breaks: B) {}
 
 // What finds the boundaries of a machine of the caller's own, with their statuses: where a line may end anywhere, those of clusters are its

@@ -5,3 +5,4 @@ mod Lines
 mod Marked
 mod ReadWords
 mod Spans
+mod Later

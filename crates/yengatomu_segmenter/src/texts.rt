@@ -12,9 +12,12 @@ use crate::segmenter::{Segmenter, suppressing};
 use icu_segmenter::cursor::{BoundaryCursor, CursorText, SegmenterOf};
 use icu_segmenter::segments::{Source, Units};
 
-// Asks the segmenter that is held, of whatever kind it is.
+// Asks the segmenter that is held, of whatever kind it is; in another way where abbreviations suppress boundaries.
 macro_rules! by_kind {
     ($segmenter:expr, $held:ident => $answer:expr) => {
+        by_kind!($segmenter, $held => $answer, suppressing => $answer)
+    };
+    ($segmenter:expr, $held:ident => $answer:expr, suppressing => $other:expr) => {
         match $segmenter {
             Segmenter::Clusters(s) => {
                 let $held = s.as_borrowed();
@@ -31,7 +34,7 @@ macro_rules! by_kind {
                 }
                 Some(a) => {
                     let $held = suppressing(s, a);
-                    $answer
+                    $other
                 }
             },
             Segmenter::Lines(s, _) => {
@@ -84,6 +87,9 @@ where
 {
     let rest = rest_of(text, from);
     by_kind!(segmenter, held => {
+        let found = SegmenterOf::<I>::breaks(&held, rest);
+        buffers::fill_both(found, from, places, marks)
+    }, suppressing => {
         let found = SegmenterOf::<I>::breaks(&held, rest);
         buffers::fill_marked(found, from, places, marks)
     })

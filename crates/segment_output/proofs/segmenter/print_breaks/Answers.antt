@@ -1,11 +1,15 @@
--- The iterator has all its boundaries left.
-use Rattle.std.proofs.Common.{refl}
-use Rattle.icu_segmenter.specs.TextSegments.{marked}
-use Rattle.segment_output.specs.Output.{look_of, lines_at, segments}
+-- Marks that aren't asked for may be any.
+use Rattle.std.proofs.Common.{false, refl}
+use Rattle.segment_output.specs.Output.{look_of, lines_at, segments, unmarked}
+use Rattle.segment_output.proofs.BareLines.{printed-bare}
 use Rattle.segment_output.proofs.Printed.{lines-are_left}
 use Rattle.segment_output.proofs.segmenter.print_breaks.Goals as goal
 
 pub returns : goal.returns
 returns g c =
-    lines-are_left (λ s. marked (λ status. g.M.HasMark.said (g.B.BreakIterator.mark status)) (g.B.BreakIterator.left s.breaks)) (segments c.args.alone)
-    (λ found. lines_at (look_of c.args.part) c.args.part.before c.args.part.bytes.now found) _ c.print_segments.new.places _ _ _ _ c.print_segments.ensures refl
+    let bare = c.asks_marks.ensures c.if-asks_marks.false in
+    rw bare.0
+    (printed-bare (λ status. g.M.HasMark.said (g.B.BreakIterator.mark status)) (look_of c.args.part) c.args.part.before c.args.part.bytes.now bare.1
+    (g.B.BreakIterator.left c.args.breaks) c.into_places.result c.into_places.ensures _ _ _
+    (lines-are_left (λ s. unmarked s.places) (segments false)
+    (λ found. lines_at (look_of c.args.part) c.args.part.before c.args.part.bytes.now found) _ c.print_segments.new.places _ _ _ _ c.print_segments.ensures refl))

@@ -20,7 +20,7 @@ pub returns-in-Words : goal.returns-in-Words
 returns-in-Words g c =
     rw c.in-Words.is
     (all-printed c.in-Words.alone (λ status. Word (type_of status)) (λ found. lines_at (look_of c.args.part) c.args.part.before c.args.part.bytes.now found) _ _ _ _ _
-    (c.segment_utf8-places-in-Words.ensures.boundaries ∙ ap (λ (rules : WordRules). word_boundaries_of rules (utf8 c.args.part.bytes.now)) c.as_borrowed-in-Words.ensures) c.print_words.ensures)
+    (c.segment_utf8-places-in-Words.ensures.boundaries ∙ ap (λ (rules : WordRules). word_boundaries_of rules (utf8 c.args.part.bytes.now)) c.as_borrowed-in-Words.ensures) c.print_breaks-in-Words.ensures)
 
 pub returns-in-Sentences : goal.returns-in-Sentences
 returns-in-Sentences g c =

@@ -3,7 +3,7 @@ use Rattle.icu_segmenter.specs.Lines.{HasLineFault}
 use Rattle.icu_segmenter.specs.Options.{machine_choice}
 use Rattle.icu_segmenter_data.proofs.ChosenLines.{are-lines}
 use Rattle.icu_segmenter_data.proofs.Refused.{lines-memory-alone}
-use Rattle.icu_segmenter_data.proofs.segmenters.line_segmenter.Goals as goal
+use Rattle.icu_segmenter_data.proofs.segmenters.lines_by_scans.Goals as goal
 
 pub returns-clause-lines : goal.returns-clause-lines
 returns-clause-lines c =

@@ -5,7 +5,7 @@ use Rattle.icu_segmenter.specs.MachineFaults.{HasTailoringFault}
 use Rattle.icu_segmenter_uax29.specs.Sentences.{FindsSentences, sentence_machine}
 use Rattle.icu_segmenter_data.proofs.Found.{found}
 use Rattle.icu_segmenter_data.proofs.Refused.{machine-memory-alone}
-use Rattle.icu_segmenter_data.proofs.segmenters.sentence_segmenter.Goals as goal
+use Rattle.icu_segmenter_data.proofs.segmenters.sentences_by_scans.Goals as goal
 
 pub returns-clause-sentences : goal.returns-clause-sentences
 returns-clause-sentences c =

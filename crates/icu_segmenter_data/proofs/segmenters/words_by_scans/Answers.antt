@@ -2,7 +2,7 @@ use Rattle.seg_data.specs.Faults.{IsFaultless}
 use Rattle.icu_segmenter.specs.Words.{HasWordMachineFault}
 use Rattle.icu_segmenter_data.proofs.TypedWords.{are-words, finds-words}
 use Rattle.icu_segmenter_data.proofs.Refused.{words-memory-alone}
-use Rattle.icu_segmenter_data.proofs.segmenters.word_segmenter.Goals as goal
+use Rattle.icu_segmenter_data.proofs.segmenters.words_by_scans.Goals as goal
 
 pub returns-clause-words : goal.returns-clause-words
 returns-clause-words c =

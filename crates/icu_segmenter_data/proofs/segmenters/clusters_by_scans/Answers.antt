@@ -1,7 +1,7 @@
 use Rattle.icu_segmenter.specs.Clusters.{owned_cluster_rules}
 use Rattle.icu_segmenter_uax29.specs.Clusters.{FindsClusters, cluster_machine}
 use Rattle.icu_segmenter_data.proofs.Found.{found-always}
-use Rattle.icu_segmenter_data.proofs.segmenters.grapheme_segmenter.Goals as goal
+use Rattle.icu_segmenter_data.proofs.segmenters.clusters_by_scans.Goals as goal
 
 pub returns-clause-clusters : goal.returns-clause-clusters
 returns-clause-clusters c =
