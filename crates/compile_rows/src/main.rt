@@ -16,9 +16,9 @@ use icu_segmenter_uax29::{cluster_machine, sentence_machine, word_machine};
 use refusals::print_refusals;
 use seg_compile::compile::{CompileError, Witness};
 use seg_machine::provider::SegmenterStateMachine;
-use seg_machine::rule_segmenter_v2::RuleBreakIterator;
 use seg_machine::tailored_machine::TailoredMachineBorrowed;
 use seg_notation::TextRules;
+use seg_rows::rule_segmenter_v2::RuleBreakIterator;
 use seg_text::indices::StrCharIndices;
 use texts::{have_same, keeps_symbols, text_of};
 

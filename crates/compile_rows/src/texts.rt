@@ -1,8 +1,8 @@
 //! A text of all that three symbols may be, and whether two machines find the same boundaries of it, and have code points as one.
 
 use seg_machine::provider::{SegmenterStateMachine, Symbol};
-use seg_machine::rule_segmenter_v2::RuleBreakIterator;
 use seg_machine::tailored_machine::TailoredMachineBorrowed;
+use seg_rows::rule_segmenter_v2::RuleBreakIterator;
 use seg_text::indices::StrCharIndices;
 use std::alloc::{AllocError, Global};
 

@@ -38,7 +38,7 @@ pub fn check_near(
     }
 }
 
-fn check_cursor<T: CursorText, S: SegmenterOf<T>>(
+fn check_cursor<T: CursorText, S: SegmenterOf<T::Source>>(
     cursor: BoundaryCursor<T, S>,
     place: usize,
     found: &Found,

@@ -12,12 +12,12 @@ use icu_segmenter::provider::{
     SegmenterStateMachineOverride, Symbol,
 };
 use seg_machine::laws::picks_are_first_or_last;
-use seg_machine::rule_segmenter_v2::RuleBreakIterator;
 use seg_machine::tailored_machine::{
     TailoredMachine, TailoredMachineBorrowed, has_complex_below_0100,
 };
 use seg_pairs::pair_data::PairDataBorrowed;
 use seg_pairs::rule_segmenter_v1;
+use seg_rows::rule_segmenter_v2::RuleBreakIterator;
 use std::alloc::{AllocError, Global};
 
 /// Says that a machine is accepted; the error is its fault.
