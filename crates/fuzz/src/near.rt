@@ -14,42 +14,33 @@ pub fn check_near(
     place: usize,
     found: &Found,
 ) -> Result<(), Failure> {
-    match segmenter {
-        SegmenterBorrowed::Clusters(clusters) => check_cursor(
+    let agrees = match segmenter {
+        SegmenterBorrowed::Clusters(clusters) => agrees(
             BoundaryCursor::new(clusters, text),
             place,
             found,
         ),
-        SegmenterBorrowed::Sentences(sentences) => check_cursor(
+        SegmenterBorrowed::Sentences(sentences) => agrees(
             BoundaryCursor::new(sentences, text),
             place,
             found,
         ),
-        SegmenterBorrowed::Words(words) => check_cursor(
-            BoundaryCursor::new(words, text),
-            place,
-            found,
-        ),
-        SegmenterBorrowed::Lines(lines) => check_cursor(
-            BoundaryCursor::new(lines, text),
-            place,
-            found,
-        ),
-    }
+        SegmenterBorrowed::Words(words) => agrees(BoundaryCursor::new(words, text), place, found),
+        SegmenterBorrowed::Lines(lines) => agrees(BoundaryCursor::new(lines, text), place, found),
+    };
+    check(agrees, "a cursor that doesn't agree")
 }
 
-fn check_cursor<T: CursorText, S: SegmenterOf<T::Source>>(
+// Whether a cursor finds the boundaries next to a place that were found.
+fn agrees<T: CursorText, S: SegmenterOf<T::Source>>(
     cursor: BoundaryCursor<T, S>,
     place: usize,
     found: &Found,
-) -> Result<(), Failure> {
+) -> bool {
     let near = neighbours(found.as_slice(), place);
-    check(
-        cursor.previous_boundary(place) == near.below
-            && cursor.is_boundary(place) == near.is_there
-            && cursor.next_boundary(place) == near.above,
-        "a cursor that doesn't agree",
-    )
+    cursor.previous_boundary(place) == near.below
+        && cursor.is_boundary(place) == near.is_there
+        && cursor.next_boundary(place) == near.above
 }
 
 // The boundaries next to a place.
