@@ -201,8 +201,8 @@ impl SentenceSegmenter {
         })
     }
 
-    /// Makes the dense rows of its machine, by which `fill` and what stands on it find boundaries about twice as fast; by a pair table there
-    /// is nothing to make. Fails only when out of memory: then it stays as it was.
+    /// Makes the dense rows of its machine, by which `fill` and what stands on it find boundaries faster; by a pair table there is nothing to
+    /// make. Fails only when out of memory: then it stays as it was.
     pub fn make_rows(&mut self, alloc: Global) -> Result<(), AllocError>
         ensures rules { owned_sentence_rules self.new ≡ owned_sentence_rules self.old }
         ensures made { IfOk result (λ _. HasRows self.new.engine) }

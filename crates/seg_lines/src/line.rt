@@ -289,8 +289,8 @@ impl LineSegmenter {
         self.dictionaries.fill(without_ja(dictionaries));
     }
 
-    /// Makes the dense rows of its machine, by which `fill` and what stands on it find boundaries about twice as fast; by a pair table there
-    /// is nothing to make. Fails only when out of memory: then it stays as it was.
+    /// Makes the dense rows of its machine, by which `fill` and what stands on it find boundaries faster; by a pair table there is nothing to
+    /// make. Fails only when out of memory: then it stays as it was.
     pub fn make_rows(&mut self, alloc: Global) -> Result<(), AllocError>
         ensures rules { owned_line_rules self.new ≡ owned_line_rules self.old }
         ensures made { IfOk result (λ _. HasLineRows self.new) }

@@ -386,17 +386,6 @@ more-boundaries few many most less more fewer within =
 pub fewer-boundaries : (room count most less more : ℕ) → count < room → less ≤ most → left_over room (count + 1) most less < left_over room count most more
 fewer-boundaries room count most less more some within = more-boundaries (room - (count + 1)) (room - count) most less more (omega (arith, some)) within
 
-pub fewer-left-over : (room count most less more entry : ℕ) → count < room → less < more → less ≤ most
-    → left_over room (count + entry % 2) most less < left_over room count most more
-fewer-left-over room count most less more entry some fewer within =
-    elim (cases_eq (entry % 2) 0) [
-      | inl even ↦ rw even (on count (omega arith))
-      | inr odd ↦ let one : entry % 2 ≡ 1 = omega (arith, odd) in rw one (fewer-boundaries room count most less more some within)
-    ]
-  where
-    on : (same : ℕ) → count + 0 ≡ same → left_over room (count + 0) most less < left_over room count most more
-    on same is = let zero : count + 0 ≡ count = omega arith in rw zero (omega (arith, fewer))
-
 -- What a call gives.
 
 pub behind-nil : (m : Machine) (left : Text) → left.items ≡ [] → behind m left ≡ []

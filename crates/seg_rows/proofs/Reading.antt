@@ -1,7 +1,7 @@
 -- What is read by rows, item by item, and by a scan.
 use Rattle.std.proofs.Common.{◌≡◌, ◌≢◌, ℕ, ◌+◌, ◌*◌, ◌/◌, ◌<◌, ◌≤◌, Option, Some, None, true, List, [], ◌∷◌, length, slice_index, IsSome, refl, ap, subst, arith, suc, drop, sym, ◌∙◌}
 use Rattle.seg_text.specs.declared.boundary.Boundary.{Boundary}
-use Rattle.seg_text.specs.Boundaries.{IsCover, boundary, boundaries_in, boundary_in, later_boundaries}
+use Rattle.seg_text.specs.Boundaries.{boundary, boundaries_in, boundary_in, later_boundaries}
 use Rattle.seg_text.specs.Items.{Item, Text, IsRising, code_points, place_of, rest_after, start_of}
 use Rattle.seg_machine.specs.Machine.{Machine, state_at, step, symbol_and_script, symbols_of}
 use Rattle.seg_machine.specs.MachineFaults.{IsChecked}
@@ -10,8 +10,6 @@ use Rattle.seg_machine.specs.Scan.{IsSymbolAhead}
 use Rattle.std.proofs.lemmas.List.{drop_all}
 use Rattle.std.specs.Option.{option_map_or}
 use Rattle.seg_text.proofs.Places.{IsRising-drop, place_of-drop-lt}
-use Rattle.seg_text.proofs.Covers.{covers}
-use Rattle.seg_machine.proofs.Segmentations.{machine-within}
 use Rattle.seg_machine.proofs.Engine.{gives-next}
 use Rattle.seg_machine.proofs.Scanned.{begins-end, begins-next, none-less, one-less, pick-some}
 use Rattle.seg_machine.specs.DenseRows.{AreRows, end_status, slow}
@@ -151,9 +149,3 @@ ends-there m text row place status checked rises (left, under, stands) at-end is
     let (p, picks, status-is, rest) =
     stops-at m text left left row 0 status status rises under (end-ahead m left left checked none none refl) says.0 says.1 refl in
     (p, picks, stands ∙ ap start_of rest, status-is)
-
-pub cover-of : (m : Machine) (first text : Text) → IsChecked m → IsRising first.items first.end → first ≡ text
-    → IsCover (start_of text) text.end (boundaries_in (machine_boundaries m) first)
-cover-of m first text checked rises same =
-    subst (λ (t : Text). IsCover (start_of t) t.end (boundaries_in (machine_boundaries m) first)) same
-    (covers (machine_stretch m) (machine-within m checked) first rises)

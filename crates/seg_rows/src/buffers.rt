@@ -24,7 +24,7 @@ use seg_text::boundary::Boundary;
 use seg_text::cursor::Cursor;
 
 // What is left of a text behind a boundary, and what is read of it: an item, if there is one.
-#[derive(Debug, Drop)]
+#[derive(Drop)]
 struct Underway<I: Cursor> {
     rest: I,
     // The row of the state that the scan of `rest` is in.

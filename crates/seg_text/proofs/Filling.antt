@@ -1,5 +1,5 @@
 -- Buffers that are filled one by one.
-use Rattle.std.proofs.Common.{◌≡◌, ℕ, zero, suc, ◌+◌, ◌-◌, ◌<◌, ◌≤◌, List, [], ◌∷◌, ◌++◌, take, drop, map, set, slice_index, length, Bool, true, false, refl, sym, ap, ◌∙◌, subst, arith}
+use Rattle.std.proofs.Common.{◌≡◌, ℕ, zero, suc, ◌+◌, ◌-◌, ◌<◌, ◌≤◌, List, [], ◌∷◌, ◌++◌, take, drop, set, slice_index, length, Bool, true, false, refl, sym, ap, ◌∙◌, subst, arith}
 use Rattle.std.proofs.lemmas.Bool.{lt-ltb, le-ltb}
 use Rattle.std.proofs.lemmas.List.{length-drop, length-map}
 use Rattle.seg_text.specs.declared.boundary.Boundary.{Boundary}
@@ -104,14 +104,6 @@ pub written-all : (room : ℕ) (before now next : Remainder) (index : ℕ) → W
     → next ≡ after_given room index before
 written-all room before now next index w inside none left status =
     same-remainder next _ _ (left ∙ sym none ∙ w.left) (status ∙ rw (lt-ltb index room inside) refl)
-
--- the places, and the statuses, of what is left
-pub offsets-are : (before now : Remainder) (offset status : ℕ) (later : List Boundary) → now.left ≡ boundary offset status ∷ later → offsets now.left ≡ offset ∷ offsets later
-offsets-are before now offset status later is = ap offsets is
-
-pub filling-on : (all old now : List ℕ) (index x : ℕ) (value : Boundary → ℕ) (left later : List Boundary) (b : Boundary) → Filling all old now index (map value left) → left ≡ b ∷ later
-    → x ≡ value b → index < length old → Filling all old (set now index x) (index + 1) (map value later)
-filling-on all old now index x value left later b filling is same inside = went-on all old now index x (map value left) (map value later) filling (rw is (rw same refl)) inside
 
 -- Boundaries that were passed.
 
