@@ -1,6 +1,6 @@
 -- Buffers that are filled one by one.
 use Rattle.std.proofs.Common.{◌≡◌, ℕ, zero, suc, ◌+◌, ◌-◌, ◌<◌, ◌≤◌, List, [], ◌∷◌, ◌++◌, take, drop, set, slice_index, length, Bool, true, false, refl, sym, ap, ◌∙◌, subst, arith}
-use Rattle.std.proofs.lemmas.Bool.{lt-ltb, le-ltb}
+use Rattle.std.proofs.lemmas.Bool.{lt-ltb}
 use Rattle.std.proofs.lemmas.List.{length-drop, length-map}
 use Rattle.seg_text.specs.declared.boundary.Boundary.{Boundary}
 use Rattle.seg_text.specs.declared.reach.Reach.{Reach}
@@ -68,9 +68,6 @@ pub record Writing (room : ℕ) (before now : Remainder) (index : ℕ) : Type 0 
   pub some : index ≤ length before.left
   pub within : index ≤ room
 
-pub writing-begins : (room : ℕ) (before : Remainder) → Writing room before before 0
-writing-begins room before = record { left = refl; status = refl; some = omega arith; within = omega arith }
-
 last-taken : (status index : ℕ) (boundaries : List Boundary) (next : Boundary) (later : List Boundary) → drop index boundaries ≡ next ∷ later
     → (last_status status (take (index + 1) boundaries) ≡ next.status) × (drop (index + 1) boundaries ≡ later) × (index < length boundaries)
 last-taken status index boundaries next later is =
@@ -95,11 +92,7 @@ writing-on room before now next index offset w inside is =
 same-remainder : (r : Remainder) (left : List Boundary) (status : ℕ) → r.left ≡ left → r.status ≡ status → r ≡ record { left = left; status = status }
 same-remainder r left status one two = rw (← one, ← two) refl
 
--- there was no more room, or nothing was left
-pub written-full : (room : ℕ) (before now : Remainder) (index : ℕ) → Writing room before now index → index ≡ room → now ≡ after_given room index before
-written-full room before now index w full =
-    same-remainder now _ _ w.left (w.status ∙ rw (le-ltb index room (omega (arith, full))) refl)
-
+-- nothing was left
 pub written-all : (room : ℕ) (before now next : Remainder) (index : ℕ) → Writing room before now index → index < room → now.left ≡ [] → next.left ≡ [] → next.status ≡ 0
     → next ≡ after_given room index before
 written-all room before now next index w inside none left status =
