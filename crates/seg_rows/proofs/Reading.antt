@@ -1,17 +1,16 @@
 -- What is read by rows, item by item, and by a scan.
-use Rattle.std.proofs.Common.{◌≡◌, ◌≢◌, ℕ, ◌+◌, ◌*◌, ◌/◌, ◌<◌, ◌≤◌, Option, Some, None, true, List, [], ◌∷◌, length, slice_index, IsSome, refl, ap, subst, arith, suc, drop, sym, ◌∙◌}
+use Rattle.std.proofs.Common.{◌≡◌, ◌≢◌, ℕ, ◌+◌, ◌*◌, ◌/◌, ◌<◌, ◌≤◌, Option, Some, None, List, [], ◌∷◌, length, slice_index, refl, ap, subst, arith, suc, drop, sym, ◌∙◌}
 use Rattle.seg_text.specs.declared.boundary.Boundary.{Boundary}
-use Rattle.seg_text.specs.Boundaries.{boundary, boundaries_in, boundary_in, later_boundaries}
 use Rattle.seg_text.specs.Items.{Item, Text, IsRising, code_points, place_of, rest_after, start_of}
 use Rattle.seg_machine.specs.Machine.{Machine, state_at, step, symbol_and_script, symbols_of}
 use Rattle.seg_machine.specs.MachineFaults.{IsChecked}
-use Rattle.seg_machine.specs.Pick.{acceptance_status, machine_boundaries, machine_stretch, pick}
+use Rattle.seg_machine.specs.Pick.{acceptance_status, pick}
 use Rattle.seg_machine.specs.Scan.{IsSymbolAhead}
 use Rattle.std.proofs.lemmas.List.{drop_all}
+use Rattle.std.specs.Prelude.{IfSome}
 use Rattle.std.specs.Option.{option_map_or}
 use Rattle.seg_text.proofs.Places.{IsRising-drop, place_of-drop-lt}
-use Rattle.seg_machine.proofs.Engine.{gives-next}
-use Rattle.seg_machine.proofs.Scanned.{begins-end, begins-next, none-less, one-less, pick-some}
+use Rattle.seg_machine.proofs.Scanned.{begins-end, begins-next, none-less, one-less}
 use Rattle.seg_machine.specs.DenseRows.{AreRows, end_status, slow}
 use Rattle.seg_rows.specs.Underway.{IsNextEntry, IsStuck}
 use Rattle.seg_rows.proofs.Underway.{stops-at}
@@ -83,35 +82,6 @@ next-end m row old new checked none left end = record {
   less = λ fast. absurd (fast refl);
 }
 
-some-boundary : (found : Option Boundary) → IsSome found → (p : Boundary) × (found ≡ Some p)
-some-boundary None some = cc
-some-boundary (Some p) some = (p, refl)
-
--- the first two boundaries of a text: its start, and the end of its first segment
-pub record Leads (m : Machine) (text : Text) (found : List Boundary) : Type 0 where
-  pub p : Boundary
-  pub picks : pick m (symbols_of m (code_points text.items)) ≡ Some p
-  pub later : List Boundary
-  pub are : found ≡ boundary (start_of text) 0 ∷ boundary_in text p ∷ later
-
-pub leads : (m : Machine) (text : Text) → IsChecked m → text.items ≢ [] → Leads m text (boundaries_in (machine_boundaries m) text)
-leads m text checked some =
-    let found = some-boundary (pick m (symbols_of m (code_points text.items))) (pick-some m checked text.items some) in
-    let left = rest_after found.0.offset text in
-    let next = gives-next m text left true 0 found.0.status (start_of left) refl some (found.0, found.1, refl, refl) refl in
-    record {
-      p = found.0;
-      picks = found.1;
-      later = boundaries_in (later_boundaries (machine_stretch m)) left;
-      are = ap (λ (later : List Boundary). boundary (start_of text) 0 ∷ later) next.steps.1;
-    }
-
-pub no-end : (all rest later : List Boundary) (start end first : Boundary) → all ≡ start ∷ end ∷ later → all ≡ first ∷ rest → rest ≡ [] → ⊥
-no-end all rest later start end first are is none = cc
-
-pub the-end : (all rest others later : List Boundary) (start end first second : Boundary) → all ≡ start ∷ end ∷ later → all ≡ first ∷ rest → rest ≡ second ∷ others → second ≡ end
-the-end all rest others later start end first second are is then = cc
-
 -- the same of a text that is the same
 pub from-same : (m : Machine) (old first : Text) (state entry : ℕ) (new : Text) → first ≡ old → IsNextEntry m first state entry new → IsNextEntry m old state entry new
 from-same m old first state entry new same next = subst (λ (text : Text). IsNextEntry m text state entry new) same next
@@ -149,3 +119,10 @@ ends-there m text row place status checked rises (left, under, stands) at-end is
     let (p, picks, status-is, rest) =
     stops-at m text left left row 0 status status rises under (end-ahead m left left checked none none refl) says.0 says.1 refl in
     (p, picks, stands ∙ ap start_of rest, status-is)
+
+-- .. if it does
+pub ends-if : (m : Machine) (text : Text) (row place : ℕ) (found : Option ℕ) → IsChecked m → IsRising text.items text.end → IsStuck m text row place → place ≡ text.end
+    → found ≡ end_status m (row / 256)
+    → IfSome found (λ status. (p : Boundary) × (pick m (symbols_of m (code_points text.items)) ≡ Some p) × (place ≡ start_of (rest_after p.offset text)) × (status ≡ p.status))
+ends-if m text row place None checked rises stuck at-end is = tt
+ends-if m text row place (Some status) checked rises stuck at-end is = ends-there m text row place status checked rises stuck at-end (sym is)

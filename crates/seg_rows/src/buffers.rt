@@ -4,7 +4,7 @@
 //! An entry of a row is the state that comes next and one bit, whether a segment ends before the character. Where the state goes on,
 //! it is the state that comes next; where it accepts and stops, it is the state that START goes on to, with the bit. Other entries say
 //! nothing (`SLOW`): there the machine's scan from the last boundary on decides.
-ghost use Rattle.std.specs.Prelude.{◌≡◌, ◌≢◌, if◌then◌else◌, nat_lt, ◌+◌, ◌-◌, ◌*◌, ◌/◌, ◌<◌, ◌≤◌, ◌++◌, ℕ, [], length, min, slice_index, take, drop, Some};
+ghost use Rattle.std.specs.Prelude.{◌≡◌, ◌≢◌, if◌then◌else◌, nat_lt, ◌+◌, ◌-◌, ◌*◌, ◌/◌, ◌<◌, ◌≤◌, ◌++◌, ℕ, [], length, min, slice_index, take, drop, Some, IfSome};
 ghost use Rattle.seg_text.specs.declared.boundary.Boundary.{Boundary as AnyBoundary};
 ghost use Rattle.seg_text.specs.Filled.{statuses};
 ghost use Rattle.seg_text.specs.Items.{code_points, start_of, rest_after};
@@ -16,11 +16,10 @@ ghost use Rattle.seg_machine.specs.Tailored.{machine_of};
 ghost use Rattle.seg_rows.specs.Underway.{IsAhead, IsGiven, IsNextEntry, IsStuck};
 ghost use Rattle.seg_rows.specs.Given.{first_unless};
 
-use crate::rule_segmenter_v2::RuleBreakIterator;
+use crate::rule_segmenter_v2::{next_segment, read_apart};
 use seg_machine::dense_rows::{DenseRows, SLOW, status_at_end};
 use seg_machine::provider::{SegmenterStateMachine, State, Symbol};
 use seg_machine::tailored_machine::TailoredMachineBorrowed;
-use seg_text::boundary::Boundary;
 use seg_text::cursor::Cursor;
 
 // What is left of a text behind a boundary, and what is read of it: an item, if there is one.
@@ -291,55 +290,34 @@ fn by_scan<I: Cursor>(
     ensures segment { IsSegment (machine_of machine.now) (I.text text) (I.text result.ahead.rest) result.status }
     ensures ahead { IsAhead (machine_of machine.now) (I.text result.ahead.rest) result.ahead.row (I.text result.ahead.after) }
 {
-    let end = end_from(machine, text.fork(), row, place);
     let mut rest = text;
-    rest.seek(end.offset);
-    Found {
-        status: end.status,
-        ahead: read_first(machine, rest),
+    if let Some(status) = status_there(machine, &rest, row, place) {
+        rest.seek(place);
+        let ahead = read_first(machine, rest);
+        return Found { status, ahead };
     }
+    let mut next = read_apart(machine, rest.fork());
+    let status = next_segment(machine, &mut rest, &mut next);
+    let ahead = read_first(machine, rest);
+    Found { status, ahead }
 }
 
-// Where the first segment of a text ends. Where the text ends, and its state accepts there, it is that place. Else the machine scans.
-fn end_from<I: Cursor>(
+// The status of the first segment of a text where the text ends at this place, and the state of this row accepts there.
+fn status_there<I: Cursor>(
     machine: &TailoredMachineBorrowed<'_>,
-    text: I,
+    text: &I,
     row: usize,
     place: usize,
-) -> Boundary
-    requires some { (I.text text).items ≢ [] }
-    requires stuck { IsStuck (machine_of machine.now) (I.text text) row place }
-    ensures { (p : AnyBoundary) × (pick (machine_of machine.now) (symbols_of (machine_of machine.now) (code_points (I.text text).items)) ≡ Some p)
-        × (result.offset ≡ start_of (rest_after p.offset (I.text text))) × (result.status ≡ p.status) }
+) -> Option<u8>
+    requires { IsStuck (machine_of machine.now) (I.text text.now) row place }
+    ensures { IfSome result (λ status. (p : AnyBoundary) × (pick (machine_of machine.now) (symbols_of (machine_of machine.now) (code_points (I.text text.now).items)) ≡ Some p)
+        × (place ≡ start_of (rest_after p.offset (I.text text.now))) × (status ≡ p.status)) }
 {
     machine.facts();
     if place == text.end() {
-        if let Some(status) = status_at_end(machine, (row / 256) as State) {
-            return Boundary {
-                offset: place,
-                status,
-            };
-        }
+        return status_at_end(machine, (row / 256) as State);
     }
-    end_of_segment(machine, text)
-}
-
-// Where the first segment of a text ends, as the machine alone finds it.
-fn end_of_segment<I: Cursor>(machine: &TailoredMachineBorrowed<'_>, text: I) -> Boundary
-    requires some { (I.text text).items ≢ [] }
-    ensures { (p : AnyBoundary) × (pick (machine_of machine.now) (symbols_of (machine_of machine.now) (code_points (I.text text).items)) ≡ Some p)
-        × (result.offset ≡ start_of (rest_after p.offset (I.text text))) × (result.status ≡ p.status) }
-{
-    machine.facts();
-    let mut boundaries = RuleBreakIterator::new(*machine, text);
-    let Some(_) = boundaries.next() else {
-        unreachable!()
-    };
-    let Some(offset) = boundaries.next() else {
-        unreachable!()
-    };
-    let status = boundaries.status();
-    Boundary { offset, status }
+    None
 }
 
 // Reads the first item of a text, if there is one.

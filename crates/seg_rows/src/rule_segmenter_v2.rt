@@ -179,7 +179,7 @@ impl<'data, I: Cursor> Iterator for RuleBreakIterator<'data, I> {
 
 /// The first symbol of a text, which is read already, and what is left after its item.
 #[derive(Debug, Drop)]
-struct Ahead<I: Cursor> {
+pub(crate) struct Ahead<I: Cursor> {
     symbol: Symbol,
     after: I,
 }
@@ -200,7 +200,7 @@ impl<I: Cursor> Ahead<I> {
 
 /// The first symbol of a text, and what is left after its item. Apart, so that it isn't in line once more.
 #[inline(never)]
-fn read_apart<I: Cursor>(machine: &TailoredMachineBorrowed<'_>, text: I) -> Ahead<I>
+pub(crate) fn read_apart<I: Cursor>(machine: &TailoredMachineBorrowed<'_>, text: I) -> Ahead<I>
     ensures { IsSymbolAhead (machine_of machine.now) (I.text text) result.symbol (I.text result.after) }
 {
     let mut after = text;
@@ -210,7 +210,7 @@ fn read_apart<I: Cursor>(machine: &TailoredMachineBorrowed<'_>, text: I) -> Ahea
 
 /// Goes on to the end of the next segment, and gives its status.
 #[inline(always)]
-fn next_segment<I: Cursor>(
+pub(crate) fn next_segment<I: Cursor>(
     machine: &TailoredMachineBorrowed<'_>,
     rest: &mut I,
     ahead: &mut Ahead<I>,
