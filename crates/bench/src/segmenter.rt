@@ -1,6 +1,8 @@
 //! Segmenters of any kind, for programs that ask all kinds the same.
 
 use crate::found::{Found, found, found_words};
+use icu_segmenter::indices::{Latin1Indices, StrCharIndices, Utf8CharIndices, Utf16Indices};
+use icu_segmenter::segments::Source;
 use icu_segmenter::{
     GraphemeClusterSegmenter, GraphemeClusterSegmenterBorrowed, LineSegmenter,
     LineSegmenterBorrowed, SentenceSegmenter, SentenceSegmenterBorrowed, WordSegmenter,
@@ -75,64 +77,29 @@ pub enum Text<'s> {
 impl<'data> SegmenterBorrowed<'data> {
     /// The boundaries of a text: of words in UTF-8 and UTF-16 by the iterator that gives their types. Fails only when out of memory.
     pub fn boundaries(self, alloc: Global, text: Text<'_>) -> Result<Found, AllocError> {
-        match self {
-            SegmenterBorrowed::Clusters(clusters) => cluster_boundaries(alloc, clusters, text),
-            SegmenterBorrowed::Sentences(sentences) => sentence_boundaries(alloc, sentences, text),
-            SegmenterBorrowed::Words(words) => word_boundaries(alloc, words, text),
-            SegmenterBorrowed::Lines(lines) => line_boundaries(alloc, lines, text),
+        match text {
+            Text::Str(text) => self.boundaries_by(alloc, StrCharIndices::new(text), false),
+            Text::Utf8(text) => self.boundaries_by(alloc, Utf8CharIndices::new(text), true),
+            Text::Latin1(text) => self.boundaries_by(alloc, Latin1Indices::new(text), false),
+            Text::Utf16(text) => self.boundaries_by(alloc, Utf16Indices::new(text), true),
         }
     }
-}
 
-/// The boundaries of clusters. Fails only when out of memory.
-pub fn cluster_boundaries(
-    alloc: Global,
-    clusters: GraphemeClusterSegmenterBorrowed<'_>,
-    text: Text<'_>,
-) -> Result<Found, AllocError> {
-    match text {
-        Text::Str(text) => found(alloc, clusters.segment_str(text)),
-        Text::Utf8(text) => found(alloc, clusters.segment_utf8(text)),
-        Text::Latin1(text) => found(alloc, clusters.segment_latin1(text)),
-        Text::Utf16(text) => found(alloc, clusters.segment_utf16(text)),
-    }
-}
-
-fn sentence_boundaries(
-    alloc: Global,
-    sentences: SentenceSegmenterBorrowed<'_>,
-    text: Text<'_>,
-) -> Result<Found, AllocError> {
-    match text {
-        Text::Str(text) => found(alloc, sentences.segment_str(text)),
-        Text::Utf8(text) => found(alloc, sentences.segment_utf8(text)),
-        Text::Latin1(text) => found(alloc, sentences.segment_latin1(text)),
-        Text::Utf16(text) => found(alloc, sentences.segment_utf16(text)),
-    }
-}
-
-fn word_boundaries(
-    alloc: Global,
-    words: WordSegmenterBorrowed<'_>,
-    text: Text<'_>,
-) -> Result<Found, AllocError> {
-    match text {
-        Text::Str(text) => found(alloc, words.segment_str(text)),
-        Text::Utf8(text) => found_words(alloc, words.segment_utf8(text).iter_with_word_type()),
-        Text::Latin1(text) => found(alloc, words.segment_latin1(text)),
-        Text::Utf16(text) => found_words(alloc, words.segment_utf16(text).iter_with_word_type()),
-    }
-}
-
-fn line_boundaries(
-    alloc: Global,
-    lines: LineSegmenterBorrowed<'_>,
-    text: Text<'_>,
-) -> Result<Found, AllocError> {
-    match text {
-        Text::Str(text) => found(alloc, lines.segment_str(text)),
-        Text::Utf8(text) => found(alloc, lines.segment_utf8(text)),
-        Text::Latin1(text) => found(alloc, lines.segment_latin1(text)),
-        Text::Utf16(text) => found(alloc, lines.segment_utf16(text)),
+    // The boundaries of what a cursor reads, those of words by the iterator that gives their types or not.
+    fn boundaries_by<I: Source>(
+        self,
+        alloc: Global,
+        text: I,
+        is_typed: bool,
+    ) -> Result<Found, AllocError> {
+        match self {
+            SegmenterBorrowed::Clusters(clusters) => found(alloc, clusters.segment(text)),
+            SegmenterBorrowed::Sentences(sentences) => found(alloc, sentences.segment(text)),
+            SegmenterBorrowed::Words(words) if is_typed => {
+                found_words(alloc, words.segment(text).iter_with_word_type())
+            }
+            SegmenterBorrowed::Words(words) => found(alloc, words.segment(text)),
+            SegmenterBorrowed::Lines(lines) => found(alloc, lines.segment(text)),
+        }
     }
 }

@@ -18,6 +18,7 @@ pub use Rattle.seg_pairs.specs.Walk
 pub use Rattle.seg_pairs.specs.Verdict
 pub use Rattle.seg_pairs.specs.Breaks
 pub use Rattle.seg_clusters.specs.Rules
+pub use Rattle.seg_clusters.specs.Certain
 pub use Rattle.seg_clusters.specs.Clusters
 pub use Rattle.seg_line_rules.specs.declared.engines.LineEngine
 pub use Rattle.seg_line_rules.specs.LineClasses

@@ -3,6 +3,7 @@ pub mod Joined
 pub mod Bounds
 pub mod LastStates
 pub mod ResetScans
+pub mod Certain
 pub mod SplitItems
 pub mod Encoded
 pub mod SplitTexts

@@ -1,4 +1,5 @@
 pub mod Rules
+pub mod Certain
 pub mod Clusters
 pub mod Scripts
 pub mod DictionaryCuts

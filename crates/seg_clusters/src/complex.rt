@@ -24,16 +24,22 @@ use seg_text::cursor::Cursor;
 use seg_text::indices::{StrCharIndices, Utf8CharIndices, Utf16Indices};
 use seg_text::scaffold::{PotentiallyIllFormedUtf8, RuleBreakType, Utf8, Utf16};
 use std::alloc::{AllocError, Global};
-use std::fmt::Debug;
+use std::fmt;
 use std::marker::PhantomData;
 
 /// The dictionaries of scripts, each if there is one, and the clusters that no cut of theirs divides.
-#[derive(Clone, Copy, Debug)]
+#[derive(Clone, Copy)]
 pub struct ComplexPayloadsBorrowed<'data> {
     /// The dictionaries.
     pub dictionaries: DictionariesBorrowed<'data>,
     /// The clusters.
     pub clusters: GraphemeClusterSegmenterBorrowed<'data>,
+}
+
+impl<'data> fmt::Debug for ComplexPayloadsBorrowed<'data> {
+    fn fmt<W: fmt::Write>(&self, f: &mut fmt::Formatter<W>) -> fmt::Result {
+        f.write_str("ComplexPayloadsBorrowed { .. }")
+    }
 }
 
 impl<'data> ComplexPayloadsBorrowed<'data> {
@@ -91,10 +97,16 @@ impl<'data> ComplexPayloadsBorrowed<'data> {
 }
 
 /// What one piece is cut by.
-#[derive(Clone, Copy, Debug)]
+#[derive(Clone, Copy)]
 pub enum ComplexPayloadBorrowed<'data> {
     /// A dictionary.
     Dict(&'data DictionaryBreakData),
+}
+
+impl<'data> fmt::Debug for ComplexPayloadBorrowed<'data> {
+    fn fmt<W: fmt::Write>(&self, f: &mut fmt::Formatter<W>) -> fmt::Result {
+        f.write_str("ComplexPayloadBorrowed { .. }")
+    }
 }
 
 impl<'data> ComplexPayloadBorrowed<'data> {
@@ -164,10 +176,15 @@ fn segment<'data, 's, Y: RuleBreakType<'s>>(
 /// The cuts of a piece, as places in units: bytes in UTF-8, 16-bit units in UTF-16, and so many more.
 ///
 /// After None it stays None.
-#[derive_where(Debug; Y::IterAttr: Debug)]
 pub struct ComplexIterator<'data, 's, Y: RuleBreakType<'s>> {
     cuts: LaterCuts<'data, Y::IterAttr>,
     text: PhantomData<&'s ()>,
+}
+
+impl<'data, 's, Y: RuleBreakType<'s>> fmt::Debug for ComplexIterator<'data, 's, Y> {
+    fn fmt<W: fmt::Write>(&self, f: &mut fmt::Formatter<W>) -> fmt::Result {
+        f.write_str("ComplexIterator { .. }")
+    }
 }
 
 impl<'data, 's, Y: RuleBreakType<'s>> Drop for ComplexIterator<'data, 's, Y> {

@@ -21,7 +21,7 @@ use std::marker::Model;
 /// ends with a cluster. If there is none, code points are read until no longer word begins with them, and the cut comes
 /// after the cluster of the last one; or else, where all are read, at the piece's end. The next cut is that of what is left.
 /// After None it stays None. It takes no memory.
-#[derive(Debug, Drop)]
+#[derive(Drop)]
 pub struct DictionaryCuts<'data, D: WordCursor, I: Cursor> {
     dictionary: D,
     clusters: GraphemeClusterSegmenterBorrowed<'data>,

@@ -5,10 +5,11 @@ ghost use Rattle.std.specs.Iterator.{YieldsFirst, MakesProgress, item_count};
 ghost use Rattle.seg_text.specs.Items.{start_of};
 ghost use Rattle.seg_text.specs.Filled.{WritesBoth, WritesPlaces};
 ghost use Rattle.seg_text.specs.Boundaries.{GivesNext, IsCover, offsets_left};
+ghost use Rattle.seg_clusters.specs.Certain.{AreCertain, IsByMachine};
 ghost use Rattle.seg_clusters.specs.Rules.{HasRows, rules_of, owned_rules, ResetsAfter, boundaries_of, machine_in};
 ghost use Rattle.seg_memo.specs.Memos.{IsMemoRefusal, IsNewMemo};
 
-use crate::resets::is_reset;
+use crate::resets::{is_certain, is_reset};
 use seg_machine::tailored_machine::{TailoredMachine, TailoredMachineBorrowed};
 use seg_memo::memo::{MemoBreakIterator, MemoError};
 use seg_memo::reader::CountedTransitions;
@@ -21,7 +22,6 @@ use std::alloc::{AllocError, Global};
 use std::marker::Model;
 
 /// What the boundaries of a text are found by.
-#[derive(Debug)]
 pub enum OwnedEngine {
     /// A pair table, with its override.
     Classic(PairData),
@@ -65,7 +65,7 @@ impl OwnedEngine {
 }
 
 /// What the boundaries of a text are found by, borrowed.
-#[derive(Clone, Copy, Debug)]
+#[derive(Clone, Copy)]
 pub enum Engine<'data> {
     /// A pair table, with its override.
     Classic(PairDataBorrowed<'data>),
@@ -102,6 +102,29 @@ impl<'data> Engine<'data> {
         }
     }
 
+    /// Whether it is a machine, of which places may be certain (`always_breaks`).
+    pub fn has_certain_places(self) -> bool
+        ensures { IsTrue result ↔ IsByMachine (rules_of self.entry) }
+    {
+        matches!(self, Engine::Neo(_))
+    }
+
+    /// Whether each text that has these three code points one after another has a boundary between the last two
+    /// (`laws::engine::certain_places`), since no scan of the machine passes there. By a pair table it is `false`.
+    pub fn always_breaks(self, before: u32, one: u32, other: u32) -> bool
+        ensures { IsTrue result ↔ AreCertain (rules_of self.entry) before one other }
+    {
+        let Engine::Neo(machine) = self else {
+            return false;
+        };
+        is_certain(
+            machine,
+            machine.symbol(before),
+            machine.symbol(one),
+            machine.symbol(other),
+        )
+    }
+
     /// The boundaries of a text, where no configuration of the machine is looked up twice. `NotNeo` by a pair table, and otherwise
     /// `TooLarge` where there are more configurations than the greatest `usize`: both without asking for memory. `Memory`
     /// where the one growth was refused.
@@ -121,14 +144,14 @@ impl<'data> Engine<'data> {
 }
 
 /// The boundaries of a text, as places, by either engine.
-#[derive(Debug, Drop)]
+#[derive(Drop)]
 pub struct Boundaries<'data, I: Cursor> {
     by: BoundariesBy<'data, I>,
 }
 
 /// Which engine gives them. The fields of both are in such an order that words of one stand over words of the other, and bytes over bytes: so
 /// either stays in registers.
-#[derive(Debug, Drop)]
+#[derive(Drop)]
 enum BoundariesBy<'data, I: Cursor> {
     /// By a pair table.
     Classic(rule_segmenter_v1::RuleBreakIterator<'data, I>),

@@ -8,6 +8,7 @@ ghost use Rattle.seg_text.specs.Boundaries.{IsCover};
 ghost use Rattle.seg_text.specs.Filled.{WritesBoth, WritesPlaces};
 ghost use Rattle.seg_data.specs.Faults.{IsFaultless, IsLowestFault};
 ghost use Rattle.seg_pairs.specs.PairData.{HasPairDataFault};
+ghost use Rattle.seg_clusters.specs.Certain.{AreCertain, IsByMachine};
 ghost use Rattle.seg_clusters.specs.Rules.{HasRows, rules_of, ResetsAfter, boundaries_of, machine_in};
 ghost use Rattle.seg_clusters.specs.Rules.Rules.{ByTable, ByMachine};
 ghost use Rattle.seg_memo.specs.Memos.{IsMemoRefusal, IsNewMemo};
@@ -23,17 +24,22 @@ use seg_pairs::provider::RuleBreakData;
 use seg_text::cursor::Cursor;
 use seg_text::indices::{Latin1Indices, StrCharIndices, Utf8CharIndices, Utf16Indices};
 use std::alloc::{AllocError, Global};
-use std::fmt::Debug;
+use std::fmt;
 
 /// The boundaries of grapheme clusters in a text, as places: bytes in str, UTF-8 and Latin-1,
 /// 16-bit units in UTF-16.
 ///
 /// First 0, then the end of each cluster; the last is the text's length. After None it stays None.
-#[derive_where(Debug; I: Debug)]
 pub struct GraphemeClusterBreakIterator<'data, I: Cursor> {
     boundaries: Boundaries<'data, I>,
     engine: Engine<'data>,
     whole: I,
+}
+
+impl<'data, I: Cursor> fmt::Debug for GraphemeClusterBreakIterator<'data, I> {
+    fn fmt<W: fmt::Write>(&self, f: &mut fmt::Formatter<W>) -> fmt::Result {
+        f.write_str("GraphemeClusterBreakIterator { .. }")
+    }
 }
 
 impl<'data, I: Cursor> Drop for GraphemeClusterBreakIterator<'data, I> {
@@ -132,9 +138,14 @@ impl<'data, I: Cursor> Iterator for GraphemeClusterBreakIterator<'data, I> {
 }
 
 /// Finds grapheme clusters with data that it owns.
-#[derive(Debug)]
 pub struct GraphemeClusterSegmenter {
     engine: OwnedEngine,
+}
+
+impl fmt::Debug for GraphemeClusterSegmenter {
+    fn fmt<W: fmt::Write>(&self, f: &mut fmt::Formatter<W>) -> fmt::Result {
+        f.write_str("GraphemeClusterSegmenter { .. }")
+    }
 }
 
 // Written out, so that it is proved here and not in each function that drops one.
@@ -198,9 +209,15 @@ impl GraphemeClusterSegmenter {
 /// segmenter.segment_utf16(&[0x65, 0x301, 0x61])         0 2 3      in 16-bit units
 /// segmenter.segment_str("")                             0
 /// ```
-#[derive(Clone, Copy, Debug)]
+#[derive(Clone, Copy)]
 pub struct GraphemeClusterSegmenterBorrowed<'data> {
     pub(crate) engine: Engine<'data>,
+}
+
+impl<'data> fmt::Debug for GraphemeClusterSegmenterBorrowed<'data> {
+    fn fmt<W: fmt::Write>(&self, f: &mut fmt::Formatter<W>) -> fmt::Result {
+        f.write_str("GraphemeClusterSegmenterBorrowed { .. }")
+    }
 }
 
 impl<'data> GraphemeClusterSegmenterBorrowed<'data> {
@@ -252,6 +269,22 @@ impl<'data> GraphemeClusterSegmenterBorrowed<'data> {
         ensures { IsTrue result ↔ ResetsAfter (cluster_rules self.entry) code_point }
     {
         self.engine.resets_after(code_point)
+    }
+
+    /// Whether places may be certain (`always_breaks`), as by a machine.
+    pub fn has_certain_places(self) -> bool
+        ensures { IsTrue result ↔ IsByMachine (cluster_rules self.entry) }
+    {
+        self.engine.has_certain_places()
+    }
+
+    /// Whether each text that has these three code points one after another has a boundary between the last two
+    /// (`laws::grapheme::certain_places`). It asks the machine for at most three steps a state and three more; by a pair table it is `false`. Takes
+    /// no memory.
+    pub fn always_breaks(self, before: u32, one: u32, other: u32) -> bool
+        ensures { IsTrue result ↔ AreCertain (cluster_rules self.entry) before one other }
+    {
+        self.engine.always_breaks(before, one, other)
     }
 
     /// The boundaries of the clusters of what a cursor has still to read, as places in the text's units. Takes no memory.

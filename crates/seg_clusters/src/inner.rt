@@ -17,7 +17,7 @@ use std::marker::Model;
 
 /// The cuts strictly inside the runs of a text, as places in units: runs are of one script that has words, by a machine, and
 /// each is cut by these. Takes no memory.
-#[derive(Debug, Drop)]
+#[derive(Drop)]
 pub struct InnerCuts<'data, I: Cursor> {
     machine: TailoredMachineBorrowed<'data>,
     payloads: ComplexPayloadsBorrowed<'data>,

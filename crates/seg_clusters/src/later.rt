@@ -15,7 +15,7 @@ use seg_text::cursor::Cursor;
 use std::marker::Model;
 
 /// The cuts of a piece, each so much later.
-#[derive(Debug, Drop)]
+#[derive(Drop)]
 pub(crate) struct LaterCuts<'data, I: Cursor> {
     cuts: DictionaryCuts<'data, DictionaryCursor<'data>, I>,
     offset: usize,

@@ -13,7 +13,7 @@ use seg_text::cursor::Cursor;
 use std::marker::Model;
 
 /// The cuts of a piece, as places in units.
-#[derive(Debug, Drop)]
+#[derive(Drop)]
 pub(crate) enum PieceIterator<'data, I: Cursor> {
     /// Its end alone, until it is given.
     End(Option<usize>),
@@ -58,7 +58,7 @@ impl<'data, I: Cursor> Iterator for PieceIterator<'data, I> {
 
 /// The cuts of a run, as places in units: those of its pieces of one script, each by the words of its script, or at its end
 /// where there is no dictionary.
-#[derive(Debug, Drop)]
+#[derive(Drop)]
 pub struct RunCuts<'data, I: Cursor> {
     payloads: ComplexPayloadsBorrowed<'data>,
     // What is left of the piece that came last.

@@ -52,7 +52,7 @@ fn script_numbered(number: u8) -> ComplexScript
 }
 
 /// Whether code points have a script.
-#[derive(Clone, Copy, Debug)]
+#[derive(Clone, Copy)]
 struct ScriptTest {
     script: ComplexScript,
 }
@@ -68,7 +68,7 @@ impl CodePointTest for ScriptTest {
 }
 
 /// The pieces of a text: the longest parts whose code points have one script.
-#[derive(Debug, Drop)]
+#[derive(Drop)]
 pub struct ScriptIterator<I: Cursor> {
     rest: I,
 }

@@ -12,6 +12,7 @@ ghost use Rattle.seg_machine.specs.MachineFaults.{HasTailoringFault};
 ghost use Rattle.seg_machine.specs.Machine.{with_tailoring};
 ghost use Rattle.seg_pairs.specs.PairTable.{table_in};
 ghost use Rattle.seg_pairs.specs.PairData.{HasPairDataFault};
+ghost use Rattle.seg_clusters.specs.Certain.{AreCertain, IsByMachine};
 ghost use Rattle.seg_clusters.specs.Rules.{HasRows, rules_of, ResetsAfter, boundaries_of, machine_in};
 ghost use Rattle.seg_clusters.specs.Rules.Rules.{ByTable, ByMachine};
 ghost use Rattle.seg_memo.specs.Memos.{IsMemoRefusal, IsNewMemo};
@@ -27,7 +28,7 @@ use seg_pairs::provider::{RuleBreakData, RuleBreakDataOverride};
 use seg_text::cursor::Cursor;
 use seg_text::indices::{Latin1Indices, StrCharIndices, Utf8CharIndices, Utf16Indices};
 use std::alloc::{AllocError, Global};
-use std::fmt::Debug;
+use std::fmt;
 
 /// The options of sentences that no language changes: none today.
 #[derive(Clone, Copy, Debug, Default, PartialEq, Eq)]
@@ -47,11 +48,16 @@ pub struct SentenceBreakOptions<'a> {
 /// 16-bit units in UTF-16.
 ///
 /// First 0, then the end of each sentence; the last is the text's length. After None it stays None.
-#[derive_where(Debug; I: Debug)]
 pub struct SentenceBreakIterator<'data, I: Cursor> {
     boundaries: Boundaries<'data, I>,
     engine: Engine<'data>,
     whole: I,
+}
+
+impl<'data, I: Cursor> fmt::Debug for SentenceBreakIterator<'data, I> {
+    fn fmt<W: fmt::Write>(&self, f: &mut fmt::Formatter<W>) -> fmt::Result {
+        f.write_str("SentenceBreakIterator { .. }")
+    }
 }
 
 impl<'data, I: Cursor> Drop for SentenceBreakIterator<'data, I> {
@@ -150,9 +156,14 @@ impl<'data, I: Cursor> Iterator for SentenceBreakIterator<'data, I> {
 }
 
 /// Finds sentences with data that it owns.
-#[derive(Debug)]
 pub struct SentenceSegmenter {
     engine: OwnedEngine,
+}
+
+impl fmt::Debug for SentenceSegmenter {
+    fn fmt<W: fmt::Write>(&self, f: &mut fmt::Formatter<W>) -> fmt::Result {
+        f.write_str("SentenceSegmenter { .. }")
+    }
 }
 
 // Written out, so that it is proved here and not in each function that drops one.
@@ -229,9 +240,15 @@ impl SentenceSegmenter {
 /// segmenter.segment_str("Hi. Bye.")                     0 4 8      in bytes
 /// segmenter.segment_str("")                             0
 /// ```
-#[derive(Clone, Copy, Debug)]
+#[derive(Clone, Copy)]
 pub struct SentenceSegmenterBorrowed<'data> {
     pub(crate) engine: Engine<'data>,
+}
+
+impl<'data> fmt::Debug for SentenceSegmenterBorrowed<'data> {
+    fn fmt<W: fmt::Write>(&self, f: &mut fmt::Formatter<W>) -> fmt::Result {
+        f.write_str("SentenceSegmenterBorrowed { .. }")
+    }
 }
 
 impl<'data> SentenceSegmenterBorrowed<'data> {
@@ -281,6 +298,22 @@ impl<'data> SentenceSegmenterBorrowed<'data> {
         ensures { IsTrue result ↔ ResetsAfter (sentence_rules self.entry) code_point }
     {
         self.engine.resets_after(code_point)
+    }
+
+    /// Whether places may be certain (`always_breaks`), as by a machine.
+    pub fn has_certain_places(self) -> bool
+        ensures { IsTrue result ↔ IsByMachine (sentence_rules self.entry) }
+    {
+        self.engine.has_certain_places()
+    }
+
+    /// Whether each text that has these three code points one after another has a boundary between the last two
+    /// (`laws::sentence::certain_places`). It asks the machine for at most three steps a state and three more; by a pair table it is `false`. Takes
+    /// no memory.
+    pub fn always_breaks(self, before: u32, one: u32, other: u32) -> bool
+        ensures { IsTrue result ↔ AreCertain (sentence_rules self.entry) before one other }
+    {
+        self.engine.always_breaks(before, one, other)
     }
 
     /// The boundaries of the sentences of what a cursor has still to read, as places in the text's units. Takes no memory.

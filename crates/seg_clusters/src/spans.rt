@@ -12,7 +12,7 @@ use seg_text::cursor::Cursor;
 use seg_text::prefixes::{CodePointTest, take_prefix};
 
 /// Whether code points have, by a machine, this script, if it has words, or else none.
-#[derive(Clone, Copy, Debug)]
+#[derive(Clone, Copy)]
 struct SpanTest<'data> {
     machine: TailoredMachineBorrowed<'data>,
     dictionaries: DictionariesBorrowed<'data>,

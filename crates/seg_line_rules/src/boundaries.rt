@@ -17,7 +17,7 @@ use seg_text::cursor::Cursor;
 use std::marker::Model;
 
 /// The boundaries of lines in a text, as places. No status of one is other than 0.
-#[derive(Debug, Drop)]
+#[derive(Drop)]
 pub struct TableLines<'data, S: LineSource> {
     // What isn't read yet.
     source: S,

@@ -10,7 +10,7 @@ use seg_pairs::provider::RuleBreakData;
 
 /// The number of a class, by the classic engine and by the engine 17: the one of `RuleBreakData::LINE_PROPERTY_..`, or of the class that it is a part
 /// of, and the other of `RuleBreakData::LINE_V3_PROPERTY_..`.
-#[derive(Clone, Copy, Debug)]
+#[derive(Clone, Copy)]
 pub(crate) struct ClassNumber(u8, u8);
 
 impl ClassNumber {

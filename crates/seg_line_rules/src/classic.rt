@@ -9,7 +9,7 @@ use seg_pairs::provider::{BreakState, RuleBreakData};
 use seg_pairs::walk::entry_after;
 
 /// The classic engine.
-#[derive(Clone, Copy, Debug)]
+#[derive(Clone, Copy)]
 pub struct ClassicEngine;
 
 impl PairEngine for ClassicEngine {

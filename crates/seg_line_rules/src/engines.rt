@@ -7,7 +7,7 @@ ghost use Rattle.seg_line_rules.specs.declared.engines.PlainPair.{PlainPair};
 use seg_pairs::provider::RuleBreakData;
 
 /// The two engines of lines by a pair table.
-#[derive(Clone, Copy, Debug, PartialEq, Eq)]
+#[derive(Clone, Copy, PartialEq, Eq)]
 pub enum LineEngine {
     /// By verdicts on units, over ICU4X's first pair tables.
     Classic,
@@ -16,7 +16,7 @@ pub enum LineEngine {
 }
 
 /// What the classes and the table alone say between two items.
-#[derive(Clone, Copy, Debug)]
+#[derive(Clone, Copy)]
 pub enum PlainPair {
     /// A boundary.
     Break,

@@ -21,7 +21,7 @@ use seg_text::cursor::Cursor;
 use std::marker::Model;
 
 /// What comes next of a text.
-#[derive(Debug, Drop)]
+#[derive(Drop)]
 pub enum LineEvent<I: Cursor> {
     /// Its end.
     End,
@@ -71,7 +71,7 @@ pub trait LineSource: Drop {
 }
 
 /// A text whose lines are found event by event.
-#[derive(Debug, Drop)]
+#[derive(Drop)]
 pub struct LineEvents<'data, I: Cursor> {
     // What isn't read yet.
     ahead: ReadAhead<'data, ClassicEngine, I>,

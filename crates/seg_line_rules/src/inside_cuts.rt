@@ -12,7 +12,7 @@ use seg_text::cursor::Cursor;
 use std::marker::Model;
 
 /// The cuts strictly inside a run, as places in units.
-#[derive(Debug, Drop)]
+#[derive(Drop)]
 pub struct InsideCuts<'data, I: Cursor> {
     cuts: RunCuts<'data, I>,
     // Where the run ends.

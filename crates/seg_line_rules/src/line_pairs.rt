@@ -17,7 +17,6 @@ use std::alloc::AllocError;
 use std::marker::PhantomData;
 
 /// A pair table of lines of its own, with what options say, for an engine.
-#[derive(Debug)]
 pub struct OwnedLinePairs<E: PairEngine> {
     table: RuleBreakData,
     style: LineStyle,
@@ -72,7 +71,6 @@ impl<E: PairEngine> OwnedLinePairs<E> {
 }
 
 /// A pair table of lines that is borrowed, with what options say, for an engine.
-#[derive(Debug)]
 pub struct LinePairs<'data, E: PairEngine> {
     table: &'data RuleBreakData,
     style: LineStyle,

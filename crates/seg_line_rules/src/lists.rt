@@ -11,7 +11,7 @@ use crate::engines::LineEngine;
 use crate::options::{LineBreakStrictness, LineStyle};
 
 /// Two units side by side: the class of the left one and the code point that lists look at, and the class and the code point of the right one.
-#[derive(Clone, Copy, Debug)]
+#[derive(Clone, Copy)]
 pub struct Neighbours {
     /// The class of the left unit.
     pub left: u8,

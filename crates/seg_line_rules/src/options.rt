@@ -75,7 +75,7 @@ pub struct LineBreakOptions<'a> {
 }
 
 /// What options say, where those that aren't given have their defaults. It isn't part of the library's surface.
-#[derive(Clone, Copy, Debug)]
+#[derive(Clone, Copy)]
 pub struct LineStyle {
     /// How strict the rules are.
     pub strictness: LineBreakStrictness,

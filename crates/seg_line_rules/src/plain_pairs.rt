@@ -9,7 +9,7 @@ use crate::options::LineStyle;
 use seg_text::cursor::Cursor;
 
 /// An item with its class.
-#[derive(Clone, Copy, Debug)]
+#[derive(Clone, Copy)]
 pub struct ClassedItem {
     /// Its class.
     pub class: u8,
@@ -20,7 +20,7 @@ pub struct ClassedItem {
 }
 
 /// Where plain pairs end.
-#[derive(Debug, Drop)]
+#[derive(Drop)]
 pub struct Passed<I: Cursor> {
     /// The item that the next unit or turn begins with.
     pub next: ClassedItem,

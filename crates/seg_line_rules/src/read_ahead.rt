@@ -17,7 +17,7 @@ use seg_text::prefixes::CodePointTest;
 use std::marker::Model;
 
 /// A text whose first item is read already, with its class. Both engines of lines read by it.
-#[derive(Debug, Drop)]
+#[derive(Drop)]
 pub struct ReadAhead<'data, E: PairEngine, I: Cursor> {
     pairs: LinePairs<'data, E>,
     // What isn't read yet: as items, ..
@@ -166,7 +166,7 @@ fn next_classed<E: PairEngine, I: Cursor>(
 }
 
 /// Which code points are complex, as the options read their classes.
-#[derive(Debug, Drop)]
+#[derive(Drop)]
 struct ComplexPoints<'data, E: PairEngine> {
     pairs: LinePairs<'data, E>,
 }

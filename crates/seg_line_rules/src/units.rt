@@ -15,7 +15,7 @@ use seg_text::cursor::Cursor;
 use std::marker::Model;
 
 /// What the rules of lines ask of a unit besides its class and its place.
-#[derive(Clone, Copy, Debug)]
+#[derive(Clone, Copy)]
 pub struct UnitDetail {
     /// The code point of its base.
     pub code_point: u32,
@@ -29,7 +29,7 @@ pub struct UnitDetail {
 pub type Unit = Element<UnitDetail>;
 
 /// The units of a text as elements.
-#[derive(Debug, Drop)]
+#[derive(Drop)]
 pub struct Units<'data, I: Cursor> {
     pairs: LinePairs<'data, ClassicEngine>,
     // The first item of the next unit, which is read already.

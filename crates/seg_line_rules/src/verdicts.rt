@@ -18,7 +18,7 @@ use seg_pairs::verdicts::{Step, Verdicts};
 use seg_pairs::walk::{Stop, entry_between, is_class, state_named, walk};
 
 /// What decides between two units.
-#[derive(Clone, Copy, Debug, PartialEq, Eq)]
+#[derive(Clone, Copy, PartialEq, Eq)]
 pub enum Case {
     /// A run of complex code points begins with the left one.
     Run,
@@ -63,7 +63,7 @@ fn begins_run(pairs: LinePairs<'_, ClassicEngine>, left: Unit, right: Unit) -> b
 }
 
 /// The rules of lines, over units.
-#[derive(Clone, Copy, Debug)]
+#[derive(Clone, Copy)]
 pub struct LineVerdicts<'data> {
     /// The pair table, and what options say.
     pub pairs: LinePairs<'data, ClassicEngine>,

@@ -17,7 +17,7 @@ use seg_pairs::provider::RuleBreakData;
 use seg_text::cursor::Cursor;
 
 /// The base that comes after some marks.
-#[derive(Clone, Copy, Debug)]
+#[derive(Clone, Copy)]
 pub(crate) struct BaseAhead {
     /// Its class, if there is one.
     pub(crate) class: Option<u8>,

@@ -10,7 +10,7 @@ use seg_pairs::provider::{BreakState, RuleBreakData};
 use seg_pairs::walk::entry_after;
 
 /// The engine 17.
-#[derive(Clone, Copy, Debug)]
+#[derive(Clone, Copy)]
 pub struct Engine17;
 
 impl PairEngine for Engine17 {

@@ -15,7 +15,7 @@ use seg_text::cursor::Cursor;
 use std::marker::Model;
 
 /// A text whose lines are found turn by turn.
-#[derive(Debug, Drop)]
+#[derive(Drop)]
 pub struct TurnEvents<'data, I: Cursor> {
     // What isn't turned yet.
     ahead: ReadAhead<'data, Engine17, I>,

@@ -3,7 +3,7 @@ ghost use Rattle.std.specs.Prelude.{◌≡◌};
 ghost use Rattle.seg_line_turns.specs.TurnPlaces.{outcome_unless};
 
 /// An item with the marks that are glued to it.
-#[derive(Clone, Copy, Debug)]
+#[derive(Clone, Copy)]
 pub struct Left {
     /// The class of the first item, or what the table reads it as at the start of a text.
     pub class: u8,
@@ -16,7 +16,7 @@ pub struct Left {
 }
 
 /// What a turn finds.
-#[derive(Clone, Copy, Debug, PartialEq, Eq)]
+#[derive(Clone, Copy, PartialEq, Eq)]
 pub enum TurnOutcome {
     /// A boundary at a place, and the place of the item that the next turn begins with, or the end of the text.
     Break(usize, usize),

@@ -19,7 +19,7 @@ use seg_text::cursor::Cursor;
 use std::ops::ControlFlow;
 
 /// What a walk carries.
-#[derive(Clone, Copy, Debug)]
+#[derive(Clone, Copy)]
 pub struct Walker {
     /// Its state.
     pub state: u8,

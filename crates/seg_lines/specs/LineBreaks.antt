@@ -8,6 +8,7 @@ use Rattle.seg_data.specs.ScriptWords.{ScriptWords, no_words}
 use Rattle.seg_pairs.specs.PairTable.{PairTable}
 use Rattle.seg_machine.specs.Machine.{Machine}
 use Rattle.seg_machine.specs.Pick.{machine_stretch}
+use Rattle.seg_clusters.specs.Certain.{AreCertain}
 use Rattle.seg_clusters.specs.Rules.{boundaries_by, first_stretch, machine_in, ResetsAfter}
 use Rattle.seg_clusters.specs.Rules.Rules.{ByMachine as ByClusterMachine, ByTable as ByClusterTable}
 use Rattle.seg_clusters.specs.Spans.{inner_cuts, inner_stretch, IsOutsideRuns}
@@ -181,6 +182,29 @@ LinesResetWith (ByMachine m) payloads code_point = ResetsAfter (ByClusterMachine
 
 abbrev pub LinesResetAfter : LineRules → ℕ → Type 0
 LinesResetAfter rules code_point = LinesResetWith rules.finder rules.payloads code_point
+
+-- Certain places: between the last two of three code points a boundary of lines stands, whatever stands around.
+
+-- a machine of lines finds them, and nothing is cut inside runs, as no script has words: of others no place is known to be certain
+abbrev pub HasCertainLinesWith : LineFinder → Payloads → Type 0
+HasCertainLinesWith ByClusters payloads = ⊥
+HasCertainLinesWith ByPlaces payloads = ⊥
+HasCertainLinesWith (ByTable rules) payloads = ⊥
+HasCertainLinesWith (ByTurns rules) payloads = ⊥
+HasCertainLinesWith (ByMachine m) payloads = payloads.words ≡ no_words
+
+abbrev pub HasCertainLines : LineRules → Type 0
+HasCertainLines rules = HasCertainLinesWith rules.finder rules.payloads
+
+abbrev pub LinesAreCertainWith : LineFinder → Payloads → ℕ → ℕ → ℕ → Type 0
+LinesAreCertainWith ByClusters payloads before one other = ⊥
+LinesAreCertainWith ByPlaces payloads before one other = ⊥
+LinesAreCertainWith (ByTable rules) payloads before one other = ⊥
+LinesAreCertainWith (ByTurns rules) payloads before one other = ⊥
+LinesAreCertainWith (ByMachine m) payloads before one other = AreCertain (ByClusterMachine m) before one other × (payloads.words ≡ no_words)
+
+abbrev pub LinesAreCertain : LineRules → ℕ → ℕ → ℕ → Type 0
+LinesAreCertain rules before one other = LinesAreCertainWith rules.finder rules.payloads before one other
 
 -- Lines by a pair table have no mandatory break.
 

@@ -24,7 +24,7 @@ use seg_text::cursor::Cursor;
 use seg_text::reach::{BoundarySource, BufferSource, HintedBoundaries, write_both, write_places};
 
 /// The boundaries of lines in a text, as places.
-#[derive(Debug, Drop)]
+#[derive(Drop)]
 pub(crate) enum LineBoundaries<'data, I: Cursor> {
     /// The boundaries of clusters, or of a machine where no script has words.
     Plain(engine::Boundaries<'data, I>),

@@ -13,7 +13,6 @@ use seg_line_turns::engine_17::Engine17;
 use seg_machine::tailored_machine::{TailoredMachine, TailoredMachineBorrowed};
 
 /// What the breaks of lines are found by.
-#[derive(Debug)]
 pub(crate) enum OwnedFinder {
     /// The clusters: a line may be broken at each of their boundaries.
     Clusters,
@@ -79,7 +78,7 @@ impl OwnedFinder {
 }
 
 /// What the breaks of lines are found by, borrowed.
-#[derive(Clone, Copy, Debug)]
+#[derive(Clone, Copy)]
 pub(crate) enum Finder<'data> {
     /// The clusters: a line may be broken at each of their boundaries.
     Clusters,

@@ -7,7 +7,7 @@ ghost use Rattle.seg_lines.specs.LineBreaks.{ComesFirst};
 use seg_text::boundary::Boundary;
 
 /// What comes first of boundaries and cuts.
-#[derive(Clone, Copy, Debug)]
+#[derive(Clone, Copy)]
 pub(crate) enum First {
     /// Nothing is left.
     Nothing,

@@ -10,7 +10,7 @@ ghost use Rattle.seg_memo.specs.Memos.{IsMemoRefusal, IsNewMemo};
 ghost use Rattle.seg_data.specs.ScriptWords.{filled, borrowed_words, no_words, script_words};
 ghost use Rattle.seg_line_rules.specs.declared.engines.LineEngine.TheVariants.{Classic, Seventeen};
 ghost use Rattle.seg_line_rules.specs.LineRules.{HasLineTableFault, style_of};
-ghost use Rattle.seg_lines.specs.LineBreaks.{IsByPairTable, line_boundaries_of, machine_of_lines, table_lines, turn_lines, lines_with_words, LinesResetAfter};
+ghost use Rattle.seg_lines.specs.LineBreaks.{IsByPairTable, line_boundaries_of, machine_of_lines, table_lines, turn_lines, lines_with_words, HasCertainLines, LinesAreCertain, LinesResetAfter};
 ghost use Rattle.seg_lines.specs.Lines.{line_rules};
 ghost use Rattle.seg_lines.specs.Options.{machine_choice};
 
@@ -45,17 +45,22 @@ use seg_text::cursor::Cursor;
 use seg_text::indices::{Latin1Indices, StrCharIndices, Utf8CharIndices, Utf16Indices};
 use seg_text::reach::HintedBoundaries;
 use std::alloc::{AllocError, Global};
-use std::fmt::Debug;
+use std::fmt;
 
 /// The boundaries of lines in a text, as places: bytes in str, UTF-8 and Latin-1,
 /// 16-bit units in UTF-16.
 ///
 /// First 0, then each place where a line may be broken; the last is the text's length. After None it stays None.
-#[derive_where(Debug; I: Debug)]
 pub struct LineBreakIterator<'data, I: Cursor> {
     boundaries: HintedBoundaries<LineBoundaries<'data, I>>,
     segmenter: LineSegmenterBorrowed<'data>,
     whole: I,
+}
+
+impl<'data, I: Cursor> fmt::Debug for LineBreakIterator<'data, I> {
+    fn fmt<W: fmt::Write>(&self, f: &mut fmt::Formatter<W>) -> fmt::Result {
+        f.write_str("LineBreakIterator { .. }")
+    }
 }
 
 impl<'data, I: Cursor> Drop for LineBreakIterator<'data, I> {
@@ -167,11 +172,16 @@ impl<'data, I: Cursor> Iterator for LineBreakIterator<'data, I> {
 }
 
 /// Finds line breaks with data that it owns.
-#[derive(Debug)]
 pub struct LineSegmenter {
     finder: OwnedFinder,
     clusters: GraphemeClusterSegmenter,
     dictionaries: Dictionaries,
+}
+
+impl fmt::Debug for LineSegmenter {
+    fn fmt<W: fmt::Write>(&self, f: &mut fmt::Formatter<W>) -> fmt::Result {
+        f.write_str("LineSegmenter { .. }")
+    }
 }
 
 // Written out, so that it is proved here and not in each function that drops one.
@@ -326,10 +336,16 @@ impl LineSegmenter {
 /// default options            segmenter.segment_str("a b\nc")      0 2 4! 5!      in bytes
 /// the word option BreakAll   segmenter.segment_str("ab c")        0 1 3 4!
 /// ```
-#[derive(Clone, Copy, Debug)]
+#[derive(Clone, Copy)]
 pub struct LineSegmenterBorrowed<'data> {
     pub(crate) finder: Finder<'data>,
     pub(crate) payloads: ComplexPayloadsBorrowed<'data>,
+}
+
+impl<'data> fmt::Debug for LineSegmenterBorrowed<'data> {
+    fn fmt<W: fmt::Write>(&self, f: &mut fmt::Formatter<W>) -> fmt::Result {
+        f.write_str("LineSegmenterBorrowed { .. }")
+    }
 }
 
 impl<'data> LineSegmenterBorrowed<'data> {
@@ -452,6 +468,31 @@ impl<'data> LineSegmenterBorrowed<'data> {
                 Engine::Neo(machine).resets_after(code_point)
                     && is_outside_runs(machine, self.payloads.dictionaries, code_point as u32)
             }
+        }
+    }
+
+    /// Whether places may be certain (`always_breaks`), as by a machine of lines, where no script has a dictionary.
+    pub fn has_certain_places(self) -> bool
+        ensures { IsTrue result ↔ HasCertainLines (line_rules self.entry) }
+    {
+        match self.finder {
+            Finder::Machine(_) => self.payloads.dictionaries.is_empty(),
+            _ => false,
+        }
+    }
+
+    /// Whether each text that has these three code points one after another has a boundary between the last two
+    /// (`laws::certain_places`), since no scan of the machine of lines passes there. It is `false` by anything else, and where some
+    /// script has a dictionary. Takes no memory; asks the machine for at most three steps a state and three more.
+    pub fn always_breaks(self, before: u32, one: u32, other: u32) -> bool
+        ensures { IsTrue result ↔ LinesAreCertain (line_rules self.entry) before one other }
+    {
+        match self.finder {
+            Finder::Machine(machine) => {
+                Engine::Neo(machine).always_breaks(before, one, other)
+                    && self.payloads.dictionaries.is_empty()
+            }
+            _ => false,
         }
     }
 

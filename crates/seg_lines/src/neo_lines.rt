@@ -21,7 +21,7 @@ use seg_text::cursor::Cursor;
 use std::marker::Model;
 
 /// The boundaries of lines in a text, as places.
-#[derive(Debug, Drop)]
+#[derive(Drop)]
 pub(crate) struct JoinedBoundaries<'data, I: Cursor> {
     machine: RuleBreakIterator<'data, I>,
     // The next boundary of the machine.

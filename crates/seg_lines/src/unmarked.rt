@@ -9,7 +9,7 @@ use seg_text::cursor::Cursor;
 use std::marker::Model;
 
 /// The places of boundaries, each with status 0.
-#[derive(Debug, Drop)]
+#[derive(Drop)]
 pub(crate) struct UnmarkedBoundaries<'data, I: Cursor> {
     boundaries: Boundaries<'data, I>,
 }

@@ -20,7 +20,7 @@ pub const ROW_LEN: usize = 256;
 const SYMBOL_COUNT: u32 = 0x10000;
 
 /// For each state of a machine a row of what it does by each ASCII character, and by each symbol.
-#[derive(Debug, Drop)]
+#[derive(Drop)]
 pub struct DenseRows {
     entries: Vec<u16>,
     // The status that each state accepts with.

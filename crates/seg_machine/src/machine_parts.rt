@@ -12,7 +12,7 @@ use crate::provider::{
 use seg_data::provider::{ClassTable, ComplexScript};
 
 /// The symbols of code points, and what states accept, by a checked machine, tailored or not, that is borrowed.
-#[derive(Clone, Copy, Debug)]
+#[derive(Clone, Copy)]
 pub struct MachineParts<'data> {
     symbols: &'data ClassTable,
     pseudo_symbol_shift: u8,

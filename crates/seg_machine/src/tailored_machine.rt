@@ -16,7 +16,6 @@ use seg_data::provider::{ComplexScript, DataError};
 use std::alloc::{AllocError, Global};
 
 /// A checked machine with its tailoring, if there is one.
-#[derive(Debug)]
 pub struct TailoredMachine {
     machine: SegmenterStateMachine,
     tailoring: Option<SegmenterStateMachineOverride>,
@@ -90,7 +89,7 @@ impl TailoredMachine {
 }
 
 /// A checked machine, tailored or not, that is borrowed. It is what engines read, step by step.
-#[derive(Clone, Copy, Debug)]
+#[derive(Clone, Copy)]
 pub struct TailoredMachineBorrowed<'data> {
     pseudo_symbol_map: &'data [(Symbol, ComplexScript)],
     replacing: Option<&'data SegmenterStateMachineOverride>,

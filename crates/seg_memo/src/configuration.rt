@@ -10,7 +10,7 @@ use seg_machine::provider::{Acceptance, Lookahead, State};
 use seg_text::boundary::Boundary;
 
 /// Where a scan is.
-#[derive(Clone, Copy, Debug)]
+#[derive(Clone, Copy)]
 pub struct Configuration {
     /// The state that it is in.
     pub state: State,
@@ -21,7 +21,7 @@ pub struct Configuration {
 }
 
 /// What a scan finds from a configuration on.
-#[derive(Clone, Copy, Debug)]
+#[derive(Clone, Copy)]
 pub enum Outcome {
     /// No state accepts, and no condition holds.
     Nothing,
@@ -33,7 +33,7 @@ pub enum Outcome {
 }
 
 /// What one look-up gives.
-#[derive(Clone, Copy, Debug)]
+#[derive(Clone, Copy)]
 pub enum LookUp {
     /// The scan's end, with the outcome of the configuration.
     Ends(Outcome),
@@ -42,7 +42,7 @@ pub enum LookUp {
 }
 
 /// What is known of a configuration.
-#[derive(Clone, Copy, Debug)]
+#[derive(Clone, Copy)]
 pub enum Cell {
     /// It was not looked up.
     Unknown,

@@ -18,6 +18,7 @@ use seg_machine::tailored_machine::TailoredMachineBorrowed;
 use seg_text::cursor::Cursor;
 use seg_text::reach::Reach;
 use std::alloc::Global;
+use std::fmt;
 use std::marker::Model;
 use thiserror::Error;
 
@@ -43,7 +44,7 @@ pub enum MemoError {
 ///
 /// It has no `Clone`: a copy of its table would take memory without an allocator that is passed in, and both would count what they
 /// read before.
-#[derive(Debug, Drop)]
+#[derive(Drop)]
 pub struct MemoBreakIterator<'data, I: Cursor, R: ReadTransitions> {
     scanned: Scanned<'data, I>,
     reader: R,
@@ -56,6 +57,12 @@ pub struct MemoBreakIterator<'data, I: Cursor, R: ReadTransitions> {
     ahead: I,
     started: bool,
     status: u8,
+}
+
+impl<'data, I: Cursor, R: ReadTransitions> fmt::Debug for MemoBreakIterator<'data, I, R> {
+    fn fmt<W: fmt::Write>(&self, f: &mut fmt::Formatter<W>) -> fmt::Result {
+        f.write_str("MemoBreakIterator { .. }")
+    }
 }
 
 impl<'data, I: Cursor, R: ReadTransitions> Model for MemoBreakIterator<'data, I, R> {

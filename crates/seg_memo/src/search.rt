@@ -24,7 +24,7 @@ use seg_text::boundary::Boundary;
 use seg_text::cursor::Cursor;
 
 /// What is scanned: a machine, but for its transitions, and the whole text.
-#[derive(Debug, Drop)]
+#[derive(Drop)]
 pub(crate) struct Scanned<'data, I: Cursor> {
     pub(crate) machine: MachineParts<'data>,
     pub(crate) text: I,

@@ -17,7 +17,7 @@ const AHEAD: usize = 64;
 
 /// A map from configurations to cells: for so many states and so many sets of lookaheads at each place. Held are the cells from
 /// the first on, as far as some were made; those after them are unknown, and no scan comes back to those before.
-#[derive(Debug, Drop)]
+#[derive(Drop)]
 pub(crate) struct Table {
     states: usize,
     sets: usize,

@@ -7,7 +7,7 @@ use crate::merge::{Join, Merge};
 use std::alloc::{AllocError, Global};
 
 /// A set of code points.
-#[derive(Debug, Drop)]
+#[derive(Drop)]
 pub(crate) struct CodePoints {
     // Where it changes, in order: a code point is in it if an odd number of these are no higher.
     changes: Vec<u32>,

@@ -11,7 +11,7 @@ use seg_rules::rules::{Class, Count};
 use std::alloc::Global;
 
 /// A rule that was read.
-#[derive(Debug, Drop)]
+#[derive(Drop)]
 pub(crate) struct OwnRow {
     pub(crate) left: Vec<(Class, Count)>,
     pub(crate) right: Vec<(Class, Count)>,
@@ -24,7 +24,7 @@ pub(crate) struct OwnRow {
 }
 
 /// The rule of marks.
-#[derive(Clone, Copy, Debug)]
+#[derive(Clone, Copy)]
 pub(crate) struct Marks {
     pub(crate) marks: Class,
     pub(crate) bare: Class,

@@ -11,7 +11,7 @@ use seg_rules::rules::Class;
 use std::alloc::{AllocError, Global};
 
 /// The symbols from 1 on, each with its set, and then `other`, for what is in none of the sets.
-#[derive(Debug, Drop)]
+#[derive(Drop)]
 pub(crate) struct Symbols {
     sets: Vec<Named>,
     // What is in any of the sets.
@@ -19,7 +19,7 @@ pub(crate) struct Symbols {
 }
 
 // A symbol: its name, the line of its set, and the set.
-#[derive(Debug, Drop)]
+#[derive(Drop)]
 struct Named {
     name: String,
     line: usize,

@@ -15,9 +15,10 @@ use seg_data::provider::ClassTable;
 use seg_machine::provider::{SegmenterStateMachine, Symbol};
 use seg_rules::rules::{Count, Rules};
 use std::alloc::Global;
+use std::fmt;
 
 /// Rules of boundaries, read from a text, with the symbols of code points.
-#[derive(Debug, Drop)]
+#[derive(Drop)]
 pub struct TextRules {
     symbols: Symbols,
     // The rules above that of marks, and those below it; without it all are above.
@@ -30,6 +31,12 @@ pub struct TextRules {
     has_end: bool,
     ghost few_above: { length above.items ≤ 255 },
     ghost few_below: { length below.items ≤ 255 },
+}
+
+impl fmt::Debug for TextRules {
+    fn fmt<W: fmt::Write>(&self, f: &mut fmt::Formatter<W>) -> fmt::Result {
+        f.write_str("TextRules { .. }")
+    }
 }
 
 const MAX_ROWS: usize = 255;

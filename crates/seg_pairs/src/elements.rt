@@ -8,7 +8,7 @@ use crate::pair_data::PairDataBorrowed;
 use seg_text::cursor::Cursor;
 
 /// An element of a text: an item, or a base with the marks after it.
-#[derive(Clone, Copy, Debug)]
+#[derive(Clone, Copy)]
 pub struct Element<D: Copy> {
     /// Its class: that of its base.
     pub class: u8,
@@ -61,7 +61,7 @@ pub trait Elements: Drop {
 }
 
 /// The items of a text as elements, with the classes of a pair table and its override.
-#[derive(Debug, Drop)]
+#[derive(Drop)]
 pub struct Items<'data, I: Cursor> {
     /// The items that aren't read yet.
     pub cursor: I,

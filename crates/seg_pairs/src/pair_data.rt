@@ -9,7 +9,6 @@ use seg_data::provider::DataError;
 
 /// A pair table and the override that it is used with, if there is one. The classes that the
 /// override names are among the table's.
-#[derive(Debug)]
 pub struct PairData {
     table: RuleBreakData,
     overriding: Option<RuleBreakDataOverride>,
@@ -73,7 +72,7 @@ impl PairData {
 }
 
 /// A pair table and its override that are borrowed. It is what engines read, entry by entry.
-#[derive(Clone, Copy, Debug)]
+#[derive(Clone, Copy)]
 pub struct PairDataBorrowed<'data> {
     table: &'data RuleBreakData,
     overriding: Option<&'data RuleBreakDataOverride>,

@@ -14,11 +14,12 @@ use crate::provider::RuleBreakData;
 use crate::verdicts::{Outcome, TableVerdicts, next_break};
 use seg_text::cursor::Cursor;
 use seg_text::reach::Reach;
+use std::fmt;
 use std::marker::Model;
 
 /// The boundaries of a text by a pair table: its start, and then each that the verdicts of the table
 /// lead to from the one before. For tables by which no run begins.
-#[derive(Debug, Drop)]
+#[derive(Drop)]
 pub struct RuleBreakIterator<'data, I: Cursor> {
     // The first element after the boundary that was given last.
     next: Option<Element<()>>,
@@ -26,6 +27,12 @@ pub struct RuleBreakIterator<'data, I: Cursor> {
     rest: Items<'data, I>,
     started: bool,
     class: u8,
+}
+
+impl<'data, I: Cursor> fmt::Debug for RuleBreakIterator<'data, I> {
+    fn fmt<W: fmt::Write>(&self, f: &mut fmt::Formatter<W>) -> fmt::Result {
+        f.write_str("RuleBreakIterator { .. }")
+    }
 }
 
 impl<'data, I: Cursor> Model for RuleBreakIterator<'data, I> {

@@ -15,7 +15,7 @@ use seg_text::prefixes::{CodePointTest, take_prefix};
 use std::marker::Model;
 
 /// What comes next of a text.
-#[derive(Debug, Drop)]
+#[derive(Drop)]
 pub enum Event<I: Cursor> {
     /// Its end.
     End,
@@ -26,7 +26,7 @@ pub enum Event<I: Cursor> {
 }
 
 /// Whether code points are complex.
-#[derive(Clone, Copy, Debug)]
+#[derive(Clone, Copy)]
 struct ComplexTest<'data> {
     pairs: PairDataBorrowed<'data>,
 }
@@ -44,7 +44,7 @@ impl<'data> CodePointTest for ComplexTest<'data> {
 }
 
 /// A text that is read by a pair table, event by event.
-#[derive(Debug, Drop)]
+#[derive(Drop)]
 pub struct Events<'data, I: Cursor> {
     pairs: PairDataBorrowed<'data>,
     // What isn't read yet: as items, ..

@@ -10,7 +10,7 @@ use crate::provider::{BreakState, RuleBreakData};
 use crate::walk::{Stop, walk};
 
 /// What a verdict on an element leads to.
-#[derive(Clone, Copy, Debug)]
+#[derive(Clone, Copy)]
 pub enum Step<D: Copy> {
     /// A boundary before this element, with this class.
     Break(Element<D>, u8),
@@ -25,7 +25,7 @@ pub enum Step<D: Copy> {
 }
 
 /// What the verdicts from an element on lead to.
-#[derive(Clone, Copy, Debug)]
+#[derive(Clone, Copy)]
 pub enum Outcome<D: Copy> {
     /// A boundary, with this class, before this element or at the end of the text.
     Break(u8, Option<Element<D>>),
@@ -88,7 +88,7 @@ pub trait Verdicts {
 }
 
 /// The rules of a pair table alone. No run begins by them.
-#[derive(Clone, Copy, Debug)]
+#[derive(Clone, Copy)]
 pub struct TableVerdicts<'data> {
     /// The table.
     pub table: &'data RuleBreakData,
@@ -142,7 +142,7 @@ impl<'data> Verdicts for TableVerdicts<'data> {
 
 /// The rules of a pair table where elements may be complex: a boundary stands before a complex one
 /// after another, and two begin a run.
-#[derive(Clone, Copy, Debug)]
+#[derive(Clone, Copy)]
 pub struct ComplexVerdicts<'data> {
     /// The table.
     pub table: &'data RuleBreakData,

@@ -18,7 +18,7 @@ pub(crate) trait Places: Drop {
 }
 
 /// None, for a machine without lookaheads.
-#[derive(Clone, Copy, Debug)]
+#[derive(Clone, Copy)]
 pub(crate) struct NoPlaces;
 
 impl Places for NoPlaces {
@@ -34,7 +34,7 @@ impl Places for NoPlaces {
 }
 
 /// One, for a machine with one lookahead.
-#[derive(Clone, Copy, Debug)]
+#[derive(Clone, Copy)]
 pub(crate) struct OnePlace(pub(crate) Option<usize>);
 
 impl Places for OnePlace {
@@ -52,7 +52,7 @@ impl Places for OnePlace {
 }
 
 /// Eight, as many as a checked machine may have.
-#[derive(Clone, Copy, Debug)]
+#[derive(Clone, Copy)]
 pub(crate) struct EightPlaces(pub(crate) [Option<usize>; 8]);
 
 impl Places for EightPlaces {

@@ -22,12 +22,13 @@ use seg_machine::tailored_machine::TailoredMachineBorrowed;
 use seg_text::boundary::Boundary;
 use seg_text::cursor::Cursor;
 use seg_text::reach::Reach;
+use std::fmt;
 use std::marker::Model;
 
 /// The boundaries of a text by a state machine: its start, and then the end of each segment.
 ///
 /// Each segment is the pick of the machine for what is left of the text.
-#[derive(Debug, Drop)]
+#[derive(Drop)]
 pub struct RuleBreakIterator<'data, I: Cursor> {
     started: bool,
     ahead: Ahead<I>,
@@ -35,6 +36,12 @@ pub struct RuleBreakIterator<'data, I: Cursor> {
     // What is left after the boundary that was given last.
     rest: I,
     status: u8,
+}
+
+impl<'data, I: Cursor> fmt::Debug for RuleBreakIterator<'data, I> {
+    fn fmt<W: fmt::Write>(&self, f: &mut fmt::Formatter<W>) -> fmt::Result {
+        f.write_str("RuleBreakIterator { .. }")
+    }
 }
 
 impl<'data, I: Cursor> Model for RuleBreakIterator<'data, I> {
@@ -178,7 +185,7 @@ impl<'data, I: Cursor> Iterator for RuleBreakIterator<'data, I> {
 }
 
 /// The first symbol of a text, which is read already, and what is left after its item.
-#[derive(Debug, Drop)]
+#[derive(Drop)]
 pub(crate) struct Ahead<I: Cursor> {
     symbol: Symbol,
     after: I,

@@ -1,7 +1,7 @@
 //! Tables that somebody made for rules and a machine, to be checked.
 
 /// What may stand before a place, and where each symbol leads from there.
-#[derive(Clone, Copy, Debug)]
+#[derive(Clone, Copy)]
 pub struct Before<'a> {
     /// Of the left pattern of each row above that of marks, which of its rests may come next: a bit for each, the whole in the
     /// lowest.
@@ -17,7 +17,7 @@ pub struct Before<'a> {
 }
 
 /// The right pattern of a row whose left one fits, as far as it is read.
-#[derive(Clone, Copy, Debug)]
+#[derive(Clone, Copy)]
 pub enum Entry {
     /// Marks are glued.
     Marks,
@@ -28,7 +28,7 @@ pub enum Entry {
 }
 
 /// What is owed to a place, and what is owed then by each symbol.
-#[derive(Clone, Copy, Debug)]
+#[derive(Clone, Copy)]
 pub struct Due<'a> {
     /// The entries, in the order of the rows.
     pub entries: &'a [Entry],
@@ -39,7 +39,7 @@ pub struct Due<'a> {
 }
 
 /// What may be true within a scan. Places: 0 none, 1 one that is no boundary, 2 that after the last symbol, 3 an older one.
-#[derive(Clone, Copy, Debug)]
+#[derive(Clone, Copy)]
 pub struct Configuration {
     /// The number of what stands before the place after the last symbol.
     pub before: u16,
@@ -58,7 +58,7 @@ pub struct Configuration {
 }
 
 /// Tables for rules, and a relation: of each state of a machine what may be true there, in order.
-#[derive(Clone, Copy, Debug)]
+#[derive(Clone, Copy)]
 pub struct Certificate<'a> {
     /// What may stand before a place: the first stands at the start.
     pub befores: &'a [Before<'a>],

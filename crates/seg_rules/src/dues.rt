@@ -12,7 +12,7 @@ use crate::flow::{flow_within, is_full, is_live};
 use crate::rules::{Row, Rules, is_in};
 
 /// How many of the last entries of a claim are owed, and the verdict where none of them fits.
-#[derive(Clone, Copy, Debug)]
+#[derive(Clone, Copy)]
 pub(crate) struct Part {
     pub(crate) matched: usize,
     pub(crate) otherwise: u8,
@@ -60,7 +60,7 @@ fn put_if(entry: Entry, verdict: u8, part: Option<Part>, claim: &[Entry]) -> Opt
 }
 
 /// A row: whether it is below that of marks, and its number.
-#[derive(Clone, Copy, Debug)]
+#[derive(Clone, Copy)]
 struct Number {
     below: bool,
     row: u8,
@@ -167,14 +167,14 @@ pub(crate) fn is_whole(part: Option<Part>, claim: &[Entry], otherwise: u8) -> bo
 }
 
 /// A symbol that is read, 0 at the end, and whether a mark would be glued there.
-#[derive(Clone, Copy, Debug)]
+#[derive(Clone, Copy)]
 pub(crate) struct Read {
     pub(crate) symbol: u8,
     pub(crate) glues: bool,
 }
 
 /// What becomes of an entry when a symbol is read: it decides, it stays, with its verdict, or it is dropped.
-#[derive(Clone, Copy, Debug)]
+#[derive(Clone, Copy)]
 enum Reading {
     Decides(u8),
     Stays(Entry, u8),

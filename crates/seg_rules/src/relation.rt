@@ -80,7 +80,7 @@ fn moved_place(older: u8, newest: u8, place: u8) -> u8
 }
 
 /// The numbers of what is owed after a symbol: to the boundary where the scan began, to an older place, and to the newest.
-#[derive(Clone, Copy, Debug)]
+#[derive(Clone, Copy)]
 struct Owed {
     doubt: u8,
     older: u8,
@@ -88,7 +88,7 @@ struct Owed {
 }
 
 /// What scans are checked by.
-#[derive(Clone, Copy, Debug)]
+#[derive(Clone, Copy)]
 pub(crate) struct Scans<'a> {
     pub(crate) machine: TailoredMachineBorrowed<'a>,
     pub(crate) certificate: Certificate<'a>,
@@ -254,7 +254,7 @@ fn goes_on(
 }
 
 /// The place that a scan has accepted last, its status, and the place that it has named.
-#[derive(Clone, Copy, Debug)]
+#[derive(Clone, Copy)]
 struct Found {
     last: u8,
     status: u8,
@@ -262,7 +262,7 @@ struct Found {
 }
 
 /// The place that a scan has to pick, and its status.
-#[derive(Clone, Copy, Debug)]
+#[derive(Clone, Copy)]
 struct Wanted {
     place: u8,
     status: u8,

@@ -10,7 +10,7 @@ use crate::dues::{Read, is_whole, owe, read_entries};
 use crate::rules::Rules;
 
 /// What is claimed to be owed.
-#[derive(Clone, Copy, Debug)]
+#[derive(Clone, Copy)]
 struct Claim<'a> {
     entries: &'a [Entry],
     otherwise: u8,

@@ -4,6 +4,8 @@ mod Whole
 mod Hints
 mod Nearest
 mod Parts
+mod ItemStarts
+mod Certain
 pub mod Given
 mod Suppressing
 mod Sources

@@ -46,7 +46,7 @@ cover-end end (one ∷ boundaries) cover =
       | inr later ↦ has-later one.offset (offsets boundaries) end later
     ]
 
-cover-within : (end : ℕ) (boundaries : List Boundary) (place : ℕ) → IsCover 0 end boundaries → Contains (offsets boundaries) place → place ≤ end
+pub cover-within : (end : ℕ) (boundaries : List Boundary) (place : ℕ) → IsCover 0 end boundaries → Contains (offsets boundaries) place → place ≤ end
 cover-within end [] place cover has = absurd cover
 cover-within end (one ∷ boundaries) place cover has =
     elim (has-cases one.offset (offsets boundaries) place has) [
@@ -62,7 +62,7 @@ joined-offsets before [] [] = refl
 joined-offsets before [] (one ∷ second) = ap (λ (places : List ℕ). (before + one.offset) ∷ places) (joined-offsets before [] second)
 joined-offsets before (one ∷ first) second = ap (λ (places : List ℕ). one.offset ∷ places) (joined-offsets before first second)
 
-has-mapped : (f : ℕ → ℕ) (places : List ℕ) (place : ℕ) → Contains places place → Contains (map f places) (f place)
+pub has-mapped : (f : ℕ → ℕ) (places : List ℕ) (place : ℕ) → Contains places place → Contains (map f places) (f place)
 has-mapped f [] place has = absurd (has-none place has)
 has-mapped f (one ∷ places) place has =
     elim (has-cases one places place has) [
@@ -70,7 +70,7 @@ has-mapped f (one ∷ places) place has =
       | inr later ↦ has-later (f one) (map f places) (f place) (has-mapped f places place later)
     ]
 
-mapped-has : (f : ℕ → ℕ) (places : List ℕ) (image : ℕ) → Contains (map f places) image → (place : ℕ) × Contains places place × (image ≡ f place)
+pub mapped-has : (f : ℕ → ℕ) (places : List ℕ) (image : ℕ) → Contains (map f places) image → (place : ℕ) × Contains places place × (image ≡ f place)
 mapped-has f [] image has = absurd (has-none image has)
 mapped-has f (one ∷ places) image has =
     elim (has-cases (f one) (map f places) image has) [

@@ -1,7 +1,7 @@
 -- Boundaries near a place of a text.
-use Rattle.std.specs.Prelude.{◌≡◌, ℕ, ◌+◌, ◌<◌, ◌≤◌, ◌⊎◌, Option, List, [], ◌∷◌, ◌++◌, Contains, MatchOption, length}
+use Rattle.std.specs.Prelude.{IsTrue, Bool, ◌≡◌, ℕ, ◌+◌, ◌<◌, ◌≤◌, ◌⊎◌, Option, List, [], ◌∷◌, ◌++◌, Contains, MatchOption, length}
 use Rattle.seg_text.specs.declared.boundary.Boundary.{Boundary}
-use Rattle.seg_text.specs.Boundaries.{boundaries_in, offsets}
+use Rattle.seg_text.specs.Boundaries.{HasRestart, boundaries_in, offsets}
 use Rattle.seg_text.specs.Decoding.{utf8}
 use Rattle.seg_text.specs.Items.{Text}
 
@@ -36,6 +36,12 @@ line_feed = 0x0A ∷ []
 -- a line begins at the place: the start, or right behind a line feed
 abbrev pub BeginsLine : List ℕ → ℕ → Type 0
 BeginsLine units place = (place ≡ 0) ⊎ ((before second : List ℕ) × (units ≡ (before ++ line_feed) ++ second) × (place ≡ length (before ++ line_feed)))
+
+-- a search may begin at the place: at the start; where a line begins, if texts may be parted behind line feeds; and at a boundary, where texts may
+-- be cut anew from each
+abbrev pub MayBegin : (List ℕ → Text) → (List ℕ → List Boundary) → Bool → List ℕ → ℕ → Type 0
+MayBegin decode find has_parts units place =
+    (place ≡ 0) ⊎ (IsTrue has_parts × BeginsLine units place) ⊎ (HasRestart find × Contains (places_of_units decode find units) place)
 
 -- the part of a text from one place on: its places, so much later, are places of the whole text, and all of those above its start
 pub record IsPart (places : List ℕ) (start : ℕ) (part : List ℕ) : Type 0 where

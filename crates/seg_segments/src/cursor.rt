@@ -11,11 +11,13 @@
 
 ghost use Rattle.std.specs.Prelude.{◌≡◌, ◌↔◌, ◌<◌, ◌≤◌, ◌+◌, ◌^◌, ℕ, IsTrue, IfSome, List, Contains, length};
 ghost use Rattle.seg_text.specs.declared.boundary.Boundary.{Boundary};
-ghost use Rattle.seg_text.specs.Boundaries.{boundaries_in, IsCover};
+ghost use Rattle.seg_text.specs.Boundaries.{boundaries_in, HasRestart, IsCover};
 ghost use Rattle.seg_text.specs.Decoding.{utf8, utf16};
+ghost use Rattle.seg_clusters.specs.Certain.{AlwaysBreaks};
 ghost use Rattle.seg_clusters.specs.Rules.{PartsBehind};
 ghost use Rattle.seg_segments.specs.NearBoundaries.{IsNearestAbove, IsNearestBelow, IsPart, boundaries_of_units, boundary_places, line_feed, places_of_units};
 
+mod certain;
 mod clusters;
 mod line_starts;
 mod lines;
@@ -25,7 +27,7 @@ mod texts;
 mod words;
 
 use crate::segments::{BreakIterator, Source};
-use line_starts::line_start;
+use certain::start_before;
 use seg_text::indices::{Utf8CharIndices, Utf16Indices};
 use std::marker::Model;
 pub use texts::CursorText;
@@ -40,6 +42,16 @@ pub trait Segmenter: Drop {
     fn parts_behind_line_feeds(&self) -> bool
         ensures utf8 { IsTrue result → PartsBehind (boundaries_of_units utf8 (find self.now)) line_feed }
         ensures utf16 { IsTrue result → PartsBehind (boundaries_of_units utf16 (find self.now)) line_feed };
+
+    /// Whether places may be certain: then each text may be cut anew from each of its boundaries. If `false`, nothing is said, and
+    /// `always_breaks` isn't asked.
+    fn has_certain_places(&self) -> bool
+        ensures { IsTrue result → HasRestart (find self.now) };
+
+    /// Whether each text that has these three code points one after another has a boundary between the last two. If `false`, nothing is
+    /// said.
+    fn always_breaks(&self, before: u32, one: u32, other: u32) -> bool
+        ensures { IsTrue result → AlwaysBreaks (find self.now) before one other };
 }
 
 /// A segmenter of texts in one encoding: that which the cursor reads.
@@ -95,8 +107,9 @@ pub trait SegmenterOf<I: Source>: Segmenter {
 /// A text with the segmenter that finds its boundaries: it answers which are near a place. Places are units from the start: bytes of
 /// UTF-8, 16-bit units of UTF-16.
 ///
-/// An answer takes no memory. Where the segmenter's rules part texts behind line feeds, it takes as long as finding the boundaries
-/// from the start of the place's line up to the one above the place; by other rules, from the start of the text.
+/// An answer takes no memory. It takes as long as finding the boundaries up to the one above the place, from where a search may begin:
+/// at the nearest certain place (`has_certain_places`), or behind the last line feed, where the segmenter's rules part texts there; or
+/// else at the start of the text.
 #[derive(Drop)]
 pub struct BoundaryCursor<T: CursorText, S: SegmenterOf<T::Source>> {
     segmenter: S,
@@ -186,7 +199,7 @@ impl<T: CursorText, S: SegmenterOf<T::Source>> BoundaryCursor<T, S> {
     }
 }
 
-/// The part of a text from the last start of a line up to a place on, or the whole text: where it begins, and its units.
+/// The part of a text from a place on that it may be cut at, at or before another place: where it begins, and its units.
 fn part_at<T: CursorText, S: SegmenterOf<T::Source>>(
     segmenter: &S,
     text: T,
@@ -199,12 +212,7 @@ fn part_at<T: CursorText, S: SegmenterOf<T::Source>>(
     ensures fits { result.0 + length (T.units result.1) < 2 ^ 64 }
     ensures part { IsPart (places_of_units T.Source.decode (S.find segmenter.now) (T.units text)) result.0 (places_of_units T.Source.decode (S.find segmenter.now) (T.units result.1)) }
 {
-    // So each place in the text is a number of this type.
-    let _end = text.len();
-    if !has_parts {
-        return (0, text);
-    }
-    let start = line_start(text, place);
+    let start = start_before(segmenter, text, has_parts, place.min(text.len()));
     let (before, part) = text.parts_at(start);
     segmenter.cover(before);
     segmenter.cover(part);

@@ -31,7 +31,7 @@ pub use places::Places;
 use seg_words::word::WordType;
 pub use source::Source;
 use std::alloc::AllocError;
-use std::fmt::Debug;
+use std::fmt;
 use std::marker::Model;
 pub use units::Units;
 
@@ -68,10 +68,6 @@ pub trait BreakIterator: Drop + Sized {
     /// The next boundary, as its place and what its status says. None at the end, and from then on.
     fn next_break(&mut self) -> Option<(usize, Self::Mark)>
         ensures { YieldsFirst (λ s. marked mark (left s)) self.old result self.new };
-
-    /// What is left of the boundaries, once more. Takes no memory and never fails.
-    fn fork(&self) -> Self
-        ensures { result ≡ self.now };
 
     /// Writes the places of the next boundaries over the first of `places`, as many as there are and there is room for, and returns
     /// how many. The next call goes on behind them. Takes no memory.
@@ -170,6 +166,14 @@ fn copy_of<T: Clone>(value: &T) -> T
     copy
 }
 
+/// An iterator over the boundaries of a text that can be had once more. It is a trait of its own, since a function that returns `Self` is
+/// dear to prove wherever a type meets its trait.
+pub trait ForkBreaks: BreakIterator {
+    /// What is left of the boundaries, once more. Takes no memory and never fails.
+    fn fork(&self) -> Self
+        ensures { result ≡ self.now };
+}
+
 /// An iterator over the boundaries of a text which gives their statuses as they are, and says what each means.
 pub trait StatusBreaks: BreakIterator {
     /// What a status says.
@@ -202,11 +206,16 @@ pub trait WordBreaks: BreakIterator<Mark = WordType> {
 /// The segments of a text, each with the place where it begins and with what the status says of the boundary at which it ends. After
 /// None it stays None.
 #[derive(Drop)]
-#[derive_where(Debug; B: Debug, B::Units: Debug)]
 pub struct MarkedSegments<B: BreakIterator> {
     breaks: B,
     text: B::Units,
     from: usize,
+}
+
+impl<B: BreakIterator> fmt::Debug for MarkedSegments<B> {
+    fn fmt<W: fmt::Write>(&self, f: &mut fmt::Formatter<W>) -> fmt::Result {
+        f.write_str("MarkedSegments { .. }")
+    }
 }
 
 impl<B: BreakIterator> Model for MarkedSegments<B> {
@@ -220,7 +229,7 @@ impl<B: BreakIterator> Model for MarkedSegments<B> {
     ghost invariant = { λ s. AreCuts (B.Units.MayCut s.text) s.from (marked B.mark (B.left s.breaks)) (length (B.Units.units s.text)) };
 }
 
-impl<B: BreakIterator> MarkedSegments<B> {
+impl<B: ForkBreaks> MarkedSegments<B> {
     // What is left of the segments, once more.
     fn fork(&self) -> Self
         ensures { result ≡ self.now }
@@ -233,7 +242,7 @@ impl<B: BreakIterator> MarkedSegments<B> {
     }
 }
 
-impl<B: BreakIterator> Clone for MarkedSegments<B> {
+impl<B: ForkBreaks> Clone for MarkedSegments<B> {
     ghost is_clone = { λ s r. r ≡ s };
 
     ghost is_infallible = { λ _. ⊤ };
@@ -267,12 +276,17 @@ impl<B: BreakIterator> Iterator for MarkedSegments<B> {
 
 /// The segments of a text. After None it stays None.
 #[derive(Drop)]
-#[derive_where(Debug; B: Debug, B::Units: Debug)]
 pub struct Segments<B: BreakIterator> {
     segments: MarkedSegments<B>,
 }
 
-impl<B: BreakIterator> Clone for Segments<B> {
+impl<B: BreakIterator> fmt::Debug for Segments<B> {
+    fn fmt<W: fmt::Write>(&self, f: &mut fmt::Formatter<W>) -> fmt::Result {
+        f.write_str("Segments { .. }")
+    }
+}
+
+impl<B: ForkBreaks> Clone for Segments<B> {
     ghost is_clone = { λ s r. r ≡ s };
 
     ghost is_infallible = { λ _. ⊤ };
@@ -303,12 +317,17 @@ impl<B: BreakIterator> Iterator for Segments<B> {
 
 /// The segments of a text, each with the place where it begins. After None it stays None.
 #[derive(Drop)]
-#[derive_where(Debug; B: Debug, B::Units: Debug)]
 pub struct SegmentIndices<B: BreakIterator> {
     segments: MarkedSegments<B>,
 }
 
-impl<B: BreakIterator> Clone for SegmentIndices<B> {
+impl<B: BreakIterator> fmt::Debug for SegmentIndices<B> {
+    fn fmt<W: fmt::Write>(&self, f: &mut fmt::Formatter<W>) -> fmt::Result {
+        f.write_str("SegmentIndices { .. }")
+    }
+}
+
+impl<B: ForkBreaks> Clone for SegmentIndices<B> {
     ghost is_clone = { λ s r. r ≡ s };
 
     ghost is_infallible = { λ _. ⊤ };
@@ -339,12 +358,17 @@ impl<B: BreakIterator> Iterator for SegmentIndices<B> {
 
 /// The words of a text, each with the place where it begins and its type. After None it stays None.
 #[derive(Drop)]
-#[derive_where(Debug; B: Debug, B::Units: Debug)]
 pub struct Words<B: BreakIterator<Mark = WordType>> {
     segments: MarkedSegments<B>,
 }
 
-impl<B: BreakIterator<Mark = WordType>> Clone for Words<B> {
+impl<B: BreakIterator<Mark = WordType>> fmt::Debug for Words<B> {
+    fn fmt<W: fmt::Write>(&self, f: &mut fmt::Formatter<W>) -> fmt::Result {
+        f.write_str("Words { .. }")
+    }
+}
+
+impl<B: ForkBreaks + BreakIterator<Mark = WordType>> Clone for Words<B> {
     ghost is_clone = { λ s r. r ≡ s };
 
     ghost is_infallible = { λ _. ⊤ };

@@ -26,17 +26,17 @@ mod segmenter;
 mod sentence_breaks;
 mod starts;
 
-use crate::segments::{BreakIterator, Units};
+use crate::segments::{BreakIterator, ForkBreaks, Units};
 pub use abbreviations::{AbbreviationError, Abbreviations};
 use kept::{HintedKept, Kept};
 use seg_data::provider::DictionaryCursor;
 use seg_text::cursor::Cursor;
 pub use segmenter::SuppressingSegmenter;
 use std::alloc::AllocError;
-use std::fmt::Debug;
+use std::fmt;
 
 /// An iterator over the boundaries of sentences.
-pub trait SentenceBreaks: BreakIterator {
+pub trait SentenceBreaks: ForkBreaks {
     ghost use Rattle.seg_segments.specs.SuppressedLeft.{suppressed_left, suppressed_source, suppressed_words};
 
     /// A cursor over the text.
@@ -81,14 +81,19 @@ pub trait SentenceBreaks: BreakIterator {
 /// It reads the text once more than the sentences do, and from each place where an abbreviation may begin as far as one goes on there,
 /// with the spaces after it. Takes no memory.
 #[derive(Drop)]
-#[derive_where(Debug; B: Debug, I: Debug)]
 pub struct SuppressedBreaks<'data, B: BreakIterator, I: Cursor> {
     kept: HintedKept<'data, B, I>,
     words: DictionaryCursor<'data>,
     source: B,
 }
 
-impl<'data, B: BreakIterator, I: Cursor> Clone for SuppressedBreaks<'data, B, I> {
+impl<'data, B: BreakIterator, I: Cursor> fmt::Debug for SuppressedBreaks<'data, B, I> {
+    fn fmt<W: fmt::Write>(&self, f: &mut fmt::Formatter<W>) -> fmt::Result {
+        f.write_str("SuppressedBreaks { .. }")
+    }
+}
+
+impl<'data, B: ForkBreaks, I: Cursor> Clone for SuppressedBreaks<'data, B, I> {
     ghost is_clone = { λ s r. r ≡ s };
 
     ghost is_infallible = { λ _. ⊤ };
@@ -144,7 +149,9 @@ impl<'data, B: BreakIterator, I: Cursor> BreakIterator for SuppressedBreaks<'dat
     fn next_break(&mut self) -> Option<(usize, B::Mark)> {
         self.kept.next_break()
     }
+}
 
+impl<'data, B: ForkBreaks, I: Cursor> ForkBreaks for SuppressedBreaks<'data, B, I> {
     fn fork(&self) -> Self {
         SuppressedBreaks {
             kept: self.kept.fork(),

@@ -17,3 +17,4 @@ pub mod Hints
 pub mod Encodings
 pub mod Passing
 pub mod Filling
+pub mod GoingOn

@@ -9,7 +9,7 @@ ghost use Rattle.seg_text.specs.Filled.{WritesBoth, WritesPlaces};
 use std::marker::Model;
 
 /// How far the boundaries of a text were given.
-#[derive(Clone, Copy, Debug)]
+#[derive(Clone, Copy)]
 pub struct Reach {
     /// Whether one was given.
     pub started: bool,
@@ -112,7 +112,7 @@ pub fn write_both<B: BoundarySource>(
 }
 
 /// The boundaries of a text as an iterator over their places, which knows how many are left at least and at most.
-#[derive(Debug, Drop)]
+#[derive(Drop)]
 pub struct HintedBoundaries<B: BoundarySource> {
     source: B,
     // How far they were given.

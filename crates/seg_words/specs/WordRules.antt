@@ -10,6 +10,7 @@ use Rattle.seg_pairs.specs.PairTable.{PairTable}
 use Rattle.seg_pairs.specs.Breaks.{HasComplexElement, complex_stretch}
 use Rattle.seg_machine.specs.Machine.{Machine}
 use Rattle.seg_machine.specs.Pick.{machine_stretch}
+use Rattle.seg_clusters.specs.Certain.{AreCertain, IsByMachine}
 use Rattle.seg_clusters.specs.Rules.{Rules, boundaries_by, ResetsAfter}
 use Rattle.seg_clusters.specs.Rules.Rules.{ByTable, ByMachine}
 use Rattle.seg_clusters.specs.DictionaryCuts.{Clusters, dictionary_cuts}
@@ -102,3 +103,12 @@ WordsResetWith (ByMachine m) words code_point = ResetsAfter (ByMachine m) code_p
 
 abbrev pub WordsResetAfter : WordRules → ℕ → Type 0
 WordsResetAfter words code_point = WordsResetWith words.rules words.payloads.words code_point
+
+-- Certain places: between the last two of three code points a boundary of words stands, whatever stands around.
+
+-- a machine finds words, and no run is cut, as no script has words: of others no place is known to be certain
+abbrev pub HasCertainWords : WordRules → Type 0
+HasCertainWords words = IsByMachine words.rules × (words.payloads.words ≡ no_words)
+
+abbrev pub WordsAreCertain : WordRules → ℕ → ℕ → ℕ → Type 0
+WordsAreCertain words before one other = AreCertain words.rules before one other × (words.payloads.words ≡ no_words)

@@ -20,7 +20,7 @@ use seg_text::cursor::Cursor;
 use seg_text::reach::{BoundarySource, BufferSource, HintedBoundaries, write_both, write_places};
 
 /// The boundaries of words in a text, as places.
-#[derive(Debug, Drop)]
+#[derive(Drop)]
 pub(crate) enum WordBoundaries<'data, I: Cursor> {
     /// By a pair table.
     Classic(ClassicBoundaries<'data, I>),

@@ -18,7 +18,7 @@ use seg_text::cursor::Cursor;
 use std::marker::Model;
 
 /// The cuts that are left of the run that came last. They aren't entered once they are over.
-#[derive(Debug, Drop)]
+#[derive(Drop)]
 struct CutsLeft<'data, I: Cursor> {
     cuts: RunCuts<'data, I>,
     // Whether some may be left.
@@ -76,7 +76,7 @@ impl<'data, I: Cursor> Iterator for CutsLeft<'data, I> {
 }
 
 /// The boundaries of words in a text, as places.
-#[derive(Debug, Drop)]
+#[derive(Drop)]
 pub(crate) struct ClassicBoundaries<'data, I: Cursor> {
     // What the table hasn't read yet.
     events: Events<'data, I>,

@@ -16,7 +16,7 @@ use seg_text::cursor::Cursor;
 use std::marker::Model;
 
 /// The boundaries of words in a text, as places.
-#[derive(Debug, Drop)]
+#[derive(Drop)]
 pub(crate) struct NeoBoundaries<'data, I: Cursor> {
     machine: TailoredMachineBorrowed<'data>,
     payloads: ComplexPayloadsBorrowed<'data>,

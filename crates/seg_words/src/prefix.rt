@@ -8,7 +8,7 @@ use seg_text::prefixes::CodePointTest;
 
 /// A cursor over the longest beginning of a text whose code points pass a test. It reads no further than what it gives, and one
 /// item more where it looks for the end.
-#[derive(Debug, Drop)]
+#[derive(Drop)]
 pub(crate) struct Prefix<I: Cursor, T: CodePointTest + Copy> {
     /// The text, from the next item on.
     pub(crate) rest: I,

@@ -27,7 +27,7 @@ use seg_text::prefixes::CodePointTest;
 const LETTERS: u8 = 2;
 
 /// Whether code points stand between runs.
-#[derive(Clone, Copy, Debug)]
+#[derive(Clone, Copy)]
 pub(crate) struct BetweenRuns<'data> {
     machine: TailoredMachineBorrowed<'data>,
     dictionaries: DictionariesBorrowed<'data>,
@@ -46,7 +46,7 @@ impl<'data> CodePointTest for BetweenRuns<'data> {
 }
 
 /// A span, of which boundaries are left.
-#[derive(Debug, Drop)]
+#[derive(Drop)]
 pub(crate) enum Span<'data, I: Cursor> {
     /// Nothing but the text's start, until it is given.
     Start(Option<usize>),

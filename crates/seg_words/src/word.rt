@@ -11,7 +11,7 @@ ghost use Rattle.seg_pairs.specs.PairTable.{table_in};
 ghost use Rattle.seg_clusters.specs.Rules.{HasRows, machine_in};
 ghost use Rattle.seg_memo.specs.Memos.{IsMemoRefusal, IsNewMemo};
 ghost use Rattle.seg_data.specs.ScriptWords.{filled, borrowed_words, no_words, script_words};
-ghost use Rattle.seg_words.specs.WordRules.{WordsResetAfter, is_word_like, machine_words, table_words, type_of, with_words, word_boundaries_of};
+ghost use Rattle.seg_words.specs.WordRules.{HasCertainWords, WordsAreCertain, WordsResetAfter, is_word_like, machine_words, table_words, type_of, with_words, word_boundaries_of};
 ghost use Rattle.seg_words.specs.Words.{word_rules};
 ghost use Rattle.seg_words.specs.declared.word.WordType.TheVariants.{None as NoWord};
 
@@ -33,7 +33,7 @@ use seg_text::cursor::Cursor;
 use seg_text::indices::{Latin1Indices, StrCharIndices, Utf8CharIndices, Utf16Indices};
 use seg_text::reach::HintedBoundaries;
 use std::alloc::{AllocError, Global};
-use std::fmt::Debug;
+use std::fmt;
 
 /// The options of words that no language changes: none today.
 #[derive(Clone, Copy, Debug, Default, PartialEq, Eq)]
@@ -88,11 +88,16 @@ pub fn type_of(status: u8) -> WordType
 ///
 /// First 0, then each place where a word, or what stands between words, ends; the last is the text's length. After None
 /// it stays None.
-#[derive_where(Debug; I: Debug)]
 pub struct WordBreakIterator<'data, I: Cursor> {
     boundaries: HintedBoundaries<WordBoundaries<'data, I>>,
     segmenter: WordSegmenterBorrowed<'data>,
     whole: I,
+}
+
+impl<'data, I: Cursor> fmt::Debug for WordBreakIterator<'data, I> {
+    fn fmt<W: fmt::Write>(&self, f: &mut fmt::Formatter<W>) -> fmt::Result {
+        f.write_str("WordBreakIterator { .. }")
+    }
 }
 
 impl<'data, I: Cursor> Drop for WordBreakIterator<'data, I> {
@@ -226,9 +231,14 @@ impl<'data, I: Cursor> Iterator for WordBreakIterator<'data, I> {
 }
 
 /// The boundaries of words in a text, each as its place and the type of what ends there.
-#[derive_where(Debug; I: Debug)]
 pub struct WordBreakIteratorWithWordType<'data, I: Cursor> {
     words: WordBreakIterator<'data, I>,
+}
+
+impl<'data, I: Cursor> fmt::Debug for WordBreakIteratorWithWordType<'data, I> {
+    fn fmt<W: fmt::Write>(&self, f: &mut fmt::Formatter<W>) -> fmt::Result {
+        f.write_str("WordBreakIteratorWithWordType { .. }")
+    }
 }
 
 impl<'data, I: Cursor> Drop for WordBreakIteratorWithWordType<'data, I> {
@@ -275,11 +285,16 @@ impl<'data, I: Cursor> Iterator for WordBreakIteratorWithWordType<'data, I> {
 }
 
 /// Finds words with data that it owns.
-#[derive(Debug)]
 pub struct WordSegmenter {
     engine: OwnedEngine,
     clusters: GraphemeClusterSegmenter,
     dictionaries: Dictionaries,
+}
+
+impl fmt::Debug for WordSegmenter {
+    fn fmt<W: fmt::Write>(&self, f: &mut fmt::Formatter<W>) -> fmt::Result {
+        f.write_str("WordSegmenter { .. }")
+    }
 }
 
 // Written out, so that it is proved here and not in each function that drops one.
@@ -405,10 +420,16 @@ impl WordSegmenter {
 ///     their types, by `word_type`                   None, Letter, None, Number, None
 /// segmenter.segment_str("")                         0
 /// ```
-#[derive(Clone, Copy, Debug)]
+#[derive(Clone, Copy)]
 pub struct WordSegmenterBorrowed<'data> {
     pub(crate) engine: Engine<'data>,
     pub(crate) payloads: ComplexPayloadsBorrowed<'data>,
+}
+
+impl<'data> fmt::Debug for WordSegmenterBorrowed<'data> {
+    fn fmt<W: fmt::Write>(&self, f: &mut fmt::Formatter<W>) -> fmt::Result {
+        f.write_str("WordSegmenterBorrowed { .. }")
+    }
 }
 
 impl<'data> WordSegmenterBorrowed<'data> {
@@ -492,6 +513,22 @@ impl<'data> WordSegmenterBorrowed<'data> {
                     && is_outside_runs(machine, self.payloads.dictionaries, code_point as u32)
             }
         }
+    }
+
+    /// Whether places may be certain (`always_breaks`), as by a machine, where no script has a dictionary.
+    pub fn has_certain_places(self) -> bool
+        ensures { IsTrue result ↔ HasCertainWords (word_rules self.entry) }
+    {
+        self.engine.has_certain_places() && self.payloads.dictionaries.is_empty()
+    }
+
+    /// Whether each text that has these three code points one after another has a boundary between the last two
+    /// (`laws::certain_places`), since no scan of the machine passes there. It is `false` by a pair table, and where some script has a
+    /// dictionary. Takes no memory; asks the machine for at most three steps a state and three more.
+    pub fn always_breaks(self, before: u32, one: u32, other: u32) -> bool
+        ensures { IsTrue result ↔ WordsAreCertain (word_rules self.entry) before one other }
+    {
+        self.engine.always_breaks(before, one, other) && self.payloads.dictionaries.is_empty()
     }
 
     /// The boundaries of the words of what a cursor has still to read, each with its type, as places in the text's units. Takes no memory.

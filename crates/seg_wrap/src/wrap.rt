@@ -23,7 +23,7 @@ use crate::wrap::extent::Extent;
 use crate::wrap::measure::Measuring;
 use crate::wrap::wrapping::{Setting, Wrapping};
 use seg_clusters::grapheme::GraphemeClusterSegmenterBorrowed;
-use seg_lines::line::{LineBreakIterator, LineSegmenterBorrowed};
+use seg_lines::line::LineSegmenterBorrowed;
 use seg_text::indices::{StrCharIndices, Utf8CharIndices};
 use std::alloc::AllocError;
 use std::fmt;
@@ -44,10 +44,16 @@ pub enum WrapError {
 /// A line takes segments of the text, each from one line break to the next, as long as they have room in its columns. It ends
 /// at each break where it must, and at the end of the text. A segment that is wider than the columns stands on a line
 /// of its own. Spaces, line feeds and carriage returns at a line's end stay in its text, and aren't counted among its columns.
-#[derive(Clone, Copy, Debug)]
+#[derive(Clone, Copy)]
 pub struct LineWrapper<'data> {
     lines: LineSegmenterBorrowed<'data>,
     measuring: Measuring<'data>,
+}
+
+impl<'data> fmt::Debug for LineWrapper<'data> {
+    fn fmt<W: fmt::Write>(&self, f: &mut fmt::Formatter<W>) -> fmt::Result {
+        f.write_str("LineWrapper { .. }")
+    }
 }
 
 impl<'data> LineWrapper<'data> {
@@ -125,7 +131,7 @@ impl<'data> LineWrapper<'data> {
         self,
         text: &'s str,
         columns: u32,
-    ) -> BalancedParagraphs<'data, StrCharIndices<'s>, LineBreakIterator<'data, StrCharIndices<'s>>>
+    ) -> BalancedParagraphs<'data, StrCharIndices<'s>>
         ensures { result ≡ paragraphs_of utf8 (wrapper_measure self.entry) (wrapper_rules self.entry) columns text.now }
     {
         let mut breaks = self.lines.segment_str(text);
@@ -139,11 +145,7 @@ impl<'data> LineWrapper<'data> {
         self,
         bytes: &'s [u8],
         columns: u32,
-    ) -> BalancedParagraphs<
-        'data,
-        Utf8CharIndices<'s>,
-        LineBreakIterator<'data, Utf8CharIndices<'s>>,
-    >
+    ) -> BalancedParagraphs<'data, Utf8CharIndices<'s>>
         ensures { result ≡ paragraphs_of utf8 (wrapper_measure self.entry) (wrapper_rules self.entry) columns bytes.now }
     {
         let mut breaks = self.lines.segment_utf8(bytes);
@@ -196,7 +198,7 @@ impl<'s> WrappedLine<'s> {
 /// The lines of a text, wrapped to columns. After None it stays None.
 pub struct WrapIterator<'data, 's> {
     text: &'s str,
-    lines: Wrapping<'data, StrCharIndices<'s>, LineBreakIterator<'data, StrCharIndices<'s>>>,
+    lines: Wrapping<'data, StrCharIndices<'s>>,
     ghost rest: { lines.text ≡ rest_from (start_of lines.text) (utf8 text.now) },
 }
 
@@ -295,7 +297,7 @@ impl<'s> WrappedUtf8Line<'s> {
 /// The lines of possibly ill-formed UTF-8, wrapped to columns. After None it stays None.
 pub struct WrapUtf8Iterator<'data, 's> {
     bytes: &'s [u8],
-    lines: Wrapping<'data, Utf8CharIndices<'s>, LineBreakIterator<'data, Utf8CharIndices<'s>>>,
+    lines: Wrapping<'data, Utf8CharIndices<'s>>,
     ghost rest: { lines.text ≡ rest_from (start_of lines.text) (utf8 bytes.now) },
 }
 

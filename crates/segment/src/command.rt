@@ -43,7 +43,7 @@ pub struct Request {
 }
 
 /// Where the command line says to how many columns lines are wrapped.
-#[derive(Clone, Copy, Debug, PartialEq, Eq)]
+#[derive(Clone, Copy, PartialEq, Eq)]
 pub enum Columns {
     /// Before the files, if anywhere.
     InPlace,

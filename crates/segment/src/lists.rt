@@ -11,7 +11,7 @@ use icu_segmenter::provider::{Dictionaries, DictionaryBreakData};
 use segment_output::segmenter::Kind;
 
 /// Which lists are read.
-#[derive(Clone, Copy, Debug, PartialEq, Eq)]
+#[derive(Clone, Copy, PartialEq, Eq)]
 pub enum Choice {
     /// None: there are no words in what is found.
     Nothing,

@@ -8,8 +8,7 @@ ghost use Rattle.icu_segmenter.specs.LineRules.{style_of};
 ghost use Rattle.segment_output.specs.Wrapped.{EndsLines};
 
 use crate::segmenter::{Engine, line_segmenter};
-use icu_segmenter::cursor::{Segmenter, SegmenterOf};
-use icu_segmenter::indices::Utf8CharIndices;
+use icu_segmenter::cursor::Segmenter;
 use icu_segmenter::options::{LineBreakOptions, LineBreakStrictness};
 use icu_segmenter::provider::{DataError, Dictionaries};
 use icu_segmenter::wrap::LineWrapper;
@@ -65,7 +64,7 @@ impl MachineLines {
     pub fn cover(&self, text: &[u8])
         ensures { IsCover 0 (length text.now) (line_boundaries_of (owned_line_rules self.now.lines) (utf8 text.now)) }
     {
-        SegmenterOf::<Utf8CharIndices<'_>>::cover(&self.lines.as_borrowed(), text);
+        let _ = self.lines.as_borrowed().segment_utf8(text);
     }
 
     /// The wrapper of lines by the same breaks, which counts columns by these clusters, or by character where there are none. Takes no

@@ -9,7 +9,7 @@ use icu_segmenter::options::WordType;
 use icu_segmenter::segments::{BreakIterator, Places};
 
 /// What is said of a segment beside its places.
-#[derive(Clone, Copy, Debug, PartialEq, Eq)]
+#[derive(Clone, Copy, PartialEq, Eq)]
 pub enum Mark {
     /// Of clusters and sentences nothing.
     Unmarked,

@@ -62,7 +62,7 @@ pub struct Part<'s> {
 }
 
 /// The numbers that stand beside that of the segments, where they are counted.
-#[derive(Clone, Copy, Debug, PartialEq, Eq)]
+#[derive(Clone, Copy, PartialEq, Eq)]
 pub struct Numbers {
     /// How many line feeds there are.
     pub lines: bool,

@@ -17,7 +17,7 @@ use std::marker::Model;
 const PAGE_LEN: usize = 65536;
 
 /// Lines that are written together, in a vector that is always full, so that each is put where it belongs and no length changes.
-#[derive(Debug, Drop)]
+#[derive(Drop)]
 pub struct Page {
     bytes: Vec<u8>,
     used: usize,

@@ -8,7 +8,7 @@ ghost use Rattle.icu_segmenter.specs.Boundaries.{IsCover};
 ghost use Rattle.icu_segmenter.specs.Clusters.{owned_cluster_rules, owned_sentence_rules};
 ghost use Rattle.icu_segmenter.specs.Lines.{line_rules, owned_line_rules};
 ghost use Rattle.icu_segmenter.specs.Decoding.{utf8};
-ghost use Rattle.icu_segmenter.specs.NearBoundaries.{boundaries_of_units, line_feed};
+ghost use Rattle.icu_segmenter.specs.NearBoundaries.{line_feed};
 ghost use Rattle.icu_segmenter.specs.Rules.{PartsBehind};
 ghost use Rattle.icu_segmenter.specs.ScriptWords.{script_words};
 ghost use Rattle.icu_segmenter.specs.Suppressing.{suppressing_finder};
@@ -20,8 +20,7 @@ ghost use Rattle.segment_output.specs.declared.marks.Mark.TheVariants.{Rule};
 use crate::marks::{Bare, HasMark, Marked, Ruled};
 use crate::output::{Part, print_segments};
 use crate::vocabulary::Vocabulary;
-use icu_segmenter::cursor::{Segmenter as Cursor, SegmenterOf};
-use icu_segmenter::indices::Utf8CharIndices;
+use icu_segmenter::cursor::Segmenter as Cursor;
 use icu_segmenter::options::{LineBreakOptions, LineBreakStrictness};
 use icu_segmenter::provider::{
     DataError, Dictionaries, LineTailoringsBorrowed, SegmenterStateMachine,
@@ -38,7 +37,7 @@ use std::io;
 use std::io::Write;
 
 /// What is found.
-#[derive(Clone, Copy, Debug, PartialEq, Eq)]
+#[derive(Clone, Copy, PartialEq, Eq)]
 pub enum Kind {
     /// Grapheme clusters.
     Clusters,
@@ -54,7 +53,7 @@ pub enum Kind {
 }
 
 /// What finds the boundaries, by Unicode's data.
-#[derive(Clone, Copy, Debug, PartialEq, Eq)]
+#[derive(Clone, Copy, PartialEq, Eq)]
 pub enum Engine {
     /// A state machine.
     Neo,
@@ -201,23 +200,26 @@ impl Segmenter {
         ensures { IsCover 0 (length text.now) (boundaries_by self.now text.now) }
     {
         match self {
-            Segmenter::Clusters(clusters) => cover(clusters.as_borrowed(), text),
-            Segmenter::Words(words, _) => cover(words.as_borrowed(), text),
-            Segmenter::Sentences(sentences) => cover(sentences.as_borrowed(), text),
-            Segmenter::Suppressing(sentences, abbreviations) => {
-                let_go(suppressing(sentences, abbreviations).segment_utf8(text))
+            Segmenter::Clusters(clusters) => {
+                let _ = clusters.as_borrowed().segment_utf8(text);
             }
-            Segmenter::Lines(lines) => cover(lines.as_borrowed(), text),
-            Segmenter::Ruled(machine, _) => cover(anywhere(machine), text),
+            Segmenter::Words(words, _) => {
+                let _ = words.as_borrowed().segment_utf8(text);
+            }
+            Segmenter::Sentences(sentences) => {
+                let _ = sentences.as_borrowed().segment_utf8(text);
+            }
+            Segmenter::Suppressing(sentences, abbreviations) => {
+                let_go(suppressing(sentences, abbreviations).segment_utf8(text));
+            }
+            Segmenter::Lines(lines) => {
+                let _ = lines.as_borrowed().segment_utf8(text);
+            }
+            Segmenter::Ruled(machine, _) => {
+                let _ = anywhere(machine).segment_utf8(text);
+            }
         }
     }
-}
-
-// The first boundary of possibly ill-formed UTF-8 is at its start, and the last at its end.
-fn cover<'s, S: SegmenterOf<Utf8CharIndices<'s>>>(segmenter: S, text: &'s [u8])
-    ensures { IsCover 0 (length text.now) (boundaries_of_units utf8 (S.find segmenter) text.now) }
-{
-    segmenter.cover(text);
 }
 
 // What finds sentences, which go on after these abbreviations.

@@ -27,7 +27,7 @@ use std::io;
 use std::io::Write;
 
 /// How lines are wrapped.
-#[derive(Clone, Copy, Debug, PartialEq, Eq)]
+#[derive(Clone, Copy, PartialEq, Eq)]
 pub struct Width {
     /// The columns that a line has at most, unless no line may end in it.
     pub columns: usize,

@@ -21,7 +21,7 @@ static PAIRS: [u8; 200] =
     *b"00010203040506070809101112131415161718192021222324252627282930313233343536373839404142434445464748495051525354555657585960616263646566676869707172737475767778798081828384858687888990919293949596979899";
 
 /// The digits of a number but the last four, kept for the numbers near it, of which they are also the digits but the last four.
-#[derive(Debug, Drop)]
+#[derive(Drop)]
 pub struct Digits {
     // The least number with these digits before its last four.
     from: usize,

@@ -7,7 +7,7 @@ use crate::tabs::expand_tabs;
 use std::alloc::{AllocError, Global};
 
 /// What is done to a text before its segments or its wrapped lines are found.
-#[derive(Clone, Copy, Debug, PartialEq, Eq)]
+#[derive(Clone, Copy, PartialEq, Eq)]
 pub struct Preparation {
     /// First each tab becomes spaces up to the next multiple of so many columns.
     pub tabs: Option<usize>,

@@ -5,7 +5,7 @@ ghost use Rattle.segment_text.specs.Size.{both_sizes, line_feeds, size_of};
 use memchr::memchr_iter;
 
 /// How large a text is.
-#[derive(Clone, Copy, Debug, PartialEq, Eq)]
+#[derive(Clone, Copy, PartialEq, Eq)]
 pub struct Size {
     /// Its line feeds.
     pub lines: usize,
@@ -14,7 +14,7 @@ pub struct Size {
 }
 
 /// What was found of a text, and how large it is.
-#[derive(Clone, Copy, Debug, PartialEq, Eq)]
+#[derive(Clone, Copy, PartialEq, Eq)]
 pub struct Tally {
     /// How many segments; 0 where lines are wrapped.
     pub segments: usize,

@@ -1,7 +1,7 @@
 //! The boundaries of texts in all encodings, counted in code points.
 
 use bench::found::{Found, shown};
-use bench::segmenter::{SegmenterBorrowed, Text, cluster_boundaries};
+use bench::segmenter::{SegmenterBorrowed, Text};
 use icu_segmenter::GraphemeClusterSegmenterBorrowed;
 use icu_segmenter::indices::{Utf8CharIndices, Utf16Indices};
 use std::alloc::{AllocError, Global};
@@ -38,8 +38,8 @@ pub fn has_same_clusters(
     other: GraphemeClusterSegmenterBorrowed<'_>,
     text: &str,
 ) -> Result<bool, AllocError> {
-    let found = cluster_boundaries(alloc, one, Text::Str(text))?;
-    let expected = cluster_boundaries(alloc, other, Text::Str(text))?;
+    let found = SegmenterBorrowed::Clusters(one).boundaries(alloc, Text::Str(text))?;
+    let expected = SegmenterBorrowed::Clusters(other).boundaries(alloc, Text::Str(text))?;
     Ok(found.as_slice() == expected.as_slice())
 }
 

@@ -1,115 +1,14 @@
--- Where lists of code points may be cut anew from their boundaries, texts may too: behind one of them come those of the rest.
-use Rattle.std.proofs.Common.{◌≡◌, ℕ, zero, suc, ◌+◌, ◌≤◌, List, [], ◌∷◌, ◌++◌, map, take, drop, length, slice_get, refl, sym, ap, ap₂, ◌∙◌, arith, drop_at, take_at, inl, inr, append_assoc, subst}
+-- Behind a line feed, where texts may be parted there, come the boundaries of the rest.
+use Rattle.std.proofs.Common.{◌≡◌, ℕ, ◌+◌, List, [], ◌∷◌, ◌++◌, map, take, drop, length, refl, sym, ap, ap₂, ◌∙◌, arith, drop_at, take_at, inl, inr, append_assoc, subst}
 use Rattle.std.proofs.str.Laws.{one}
-use Rattle.std.specs.Prelude.{Some, Contains}
-use Rattle.std.proofs.lemmas.List.{length-drop, drop-map, drop_more, map-append, take-append-drop}
-use Rattle.std.proofs.lemmas.Option.{slice_get_read}
+use Rattle.std.proofs.lemmas.List.{map-append}
 use Rattle.seg_text.specs.declared.boundary.Boundary.{Boundary}
-use Rattle.seg_text.specs.Items.{Item, Reader, Text, place_of, start_of, rest_after, code_points, items_by, text_by}
-use Rattle.seg_text.specs.Boundaries.{HasRestart, IsCover, RestartsIn, RisesTo, boundary_in, boundaries_in, offsets, shift_all}
-use Rattle.seg_text.specs.Lemmas.Readers.{IsReader, items_by-nil, items_by-cons}
+use Rattle.seg_text.specs.Items.{Text}
+use Rattle.seg_text.specs.Boundaries.{IsCover, RisesTo, boundaries_in, offsets, shift_all}
 use Rattle.icu_segmenter.specs.NearBoundaries.{BeginsLine, line_feed}
 use Rattle.icu_segmenter.specs.Rules.{PartsBehind, PartsTexts}
-use Rattle.seg_text.specs.Decoding.{read_latin1, latin1, latin1_items, read_utf8, utf8, utf8_items, read_utf16, utf16, utf16_items}
-use Rattle.seg_text.specs.Lemmas.Rising.{read_latin1-reader}
-use Rattle.seg_text.specs.Lemmas.Utf8Stable.{read_utf8-stable}
-use Rattle.seg_text.specs.Lemmas.Utf16Stable.{read_utf16-stable}
-use Rattle.seg_text.proofs.Cursors.{seek-text}
-use Rattle.seg_text.proofs.Places.{code_points-drop, in-shift}
-
--- items so much later
-abbrev later_items : ℕ → List Item → List Item
-later_items before items = map (λ (item : Item). (before + item.0, item.1)) items
-
-later-codes : (before : ℕ) (items : List Item) → code_points (later_items before items) ≡ code_points items
-later-codes before [] = refl
-later-codes before (item ∷ items) = ap (λ codes. item.1 ∷ codes) (later-codes before items)
-
-later-place : (before end : ℕ) (items : List Item) → place_of (later_items before items) (before + end) ≡ before + place_of items end
-later-place before end [] = refl
-later-place before end (item ∷ items) = refl
-
--- what is found at an index was found before it was mapped
-mapped : {X Y : Type 0} (f : X → Y) (xs : List X) (k : ℕ) (y : Y) → slice_get (map f xs) k ≡ Some y → (x : X) × (slice_get xs k ≡ Some x) × (f x ≡ y)
-mapped f [] k y is = absurd cc
-mapped f (x ∷ xs) zero y is = (x, refl, cc)
-mapped f (x ∷ xs) (suc k) y is = mapped f xs k y is
-
-module _ (read : Reader ℕ) (reader : IsReader read) where
-  -- items from a later place on are the same, so much later
-  items-within : (most before place : ℕ) (units : List ℕ) → length units ≤ most → items_by read (before + place) units ≡ later_items before (items_by read place units)
-  items-within most before place [] bound = items_by-nil read (before + place) ∙ sym (ap (later_items before) (items_by-nil read place))
-  items-within zero before place (unit ∷ units) bound = absurd (omega arith)
-  items-within (suc most) before place (unit ∷ units) bound =
-      let found = read (unit ∷ units) in
-      let left = drop found.0 (unit ∷ units) in
-      let fewer : length left ≤ most = omega (arith, length-drop found.0 (unit ∷ units), reader.some unit units) in
-      let sum : before + place + found.0 ≡ before + (place + found.0) = omega arith in
-      items_by-cons read reader (before + place) unit units
-      ∙ ap (λ at. (before + place, found.1) ∷ items_by read at left) sum
-      ∙ ap (λ later. (before + place, found.1) ∷ later) (items-within most before (place + found.0) left fewer)
-      ∙ sym (ap (later_items before) (items_by-cons read reader place unit units))
-
-  module _ (from : ℕ) (units : List ℕ) where
-    abbrev there : Text
-    there = text_by read from units
-
-    abbrev alone : Text
-    alone = text_by read 0 units
-
-    items-later : there.items ≡ later_items from alone.items
-    items-later =
-        let same : from ≡ from + 0 = omega arith in
-        ap (λ place. items_by read place units) same ∙ items-within (length units) from 0 units (omega arith)
-
-    codes-there : code_points there.items ≡ code_points alone.items
-    codes-there = ap code_points items-later ∙ later-codes from alone.items
-
-    place-there : (n : ℕ) → start_of (rest_after n there) ≡ from + start_of (rest_after n alone)
-    place-there n =
-        let end : 0 + length units ≡ length units = omega arith in
-        ap (λ items. place_of (drop n items) (from + length units)) items-later
-        ∙ ap (λ items. place_of items (from + length units)) (drop-map (λ (item : Item). (from + item.0, item.1)) n alone.items)
-        ∙ later-place from (length units) (drop n alone.items)
-        ∙ ap (λ end. from + place_of (drop n alone.items) end) (sym end)
-
-    -- boundaries of code points stand so much later there
-    places-there : (counted : List Boundary) → offsets (map (boundary_in there) counted) ≡ map (λ place. from + place) (offsets (map (boundary_in alone) counted))
-    places-there [] = refl
-    places-there (found ∷ counted) = ap₂ (λ place places. place ∷ places) (place-there found.offset) (places-there counted)
-
-  -- the places of a text behind one of them are those of the rest
-  pub goes-on : (find : List ℕ → List Boundary) (units : List ℕ) → RestartsIn find (code_points (text_by read 0 units).items)
-      → (k from : ℕ) → slice_get (offsets (boundaries_in find (text_by read 0 units))) k ≡ Some from
-      → drop (suc k) (offsets (boundaries_in find (text_by read 0 units))) ≡ map (λ place. from + place) (offsets (drop 1 (boundaries_in find (text_by read 0 (drop from units)))))
-  goes-on find units restarts k from is =
-      let whole = text_by read 0 units in
-      let codes = code_points whole.items in
-      let (placed, at, offset) = mapped (λ (found : Boundary). found.offset) (boundaries_in find whole) k from is in
-      let (counted, found, in_text) = mapped (boundary_in whole) (find codes) k placed at in
-      let here : from ≡ start_of (rest_after counted.offset whole) = sym offset ∙ sym (ap (λ (found : Boundary). found.offset) in_text) in
-      let rest : text_by read from (drop from units) ≡ rest_after counted.offset whole = seek-text read reader counted.offset from 0 units (omega arith) here in
-      let codes_left : drop counted.offset codes ≡ code_points (text_by read 0 (drop from units)).items =
-      sym (code_points-drop counted.offset whole.items) ∙ sym (ap (λ (text : Text). code_points text.items) rest) ∙ codes-there from (drop from units) in
-      drop-map (λ (found : Boundary). found.offset) (suc k) (boundaries_in find whole)
-      ∙ ap offsets (drop-map (boundary_in whole) (suc k) (find codes))
-      ∙ ap (λ counted. offsets (map (boundary_in whole) counted)) (restarts k counted found)
-      ∙ ap offsets (in-shift whole counted.offset (drop 1 (find (drop counted.offset codes))))
-      ∙ ap (λ (text : Text). offsets (map (boundary_in text) (drop 1 (find (drop counted.offset codes))))) (sym rest)
-      ∙ ap (λ codes. offsets (map (boundary_in (text_by read from (drop from units))) (drop 1 (find codes)))) codes_left
-      ∙ places-there from (drop from units) (drop 1 (find (code_points (text_by read 0 (drop from units)).items)))
-      ∙ ap (λ found. map (λ place. from + place) (offsets found)) (sym (drop-map (boundary_in (text_by read 0 (drop from units))) 1 (find (code_points (text_by read 0 (drop from units)).items))))
-
--- .. and all its boundaries are those before the place, the place, and those of the rest
-
--- what a list contains stands at an index, behind others and before others
-split : (xs : List ℕ) (x : ℕ) → Contains xs x → (i : ℕ) × (slice_get xs i ≡ Some x) × (xs ≡ take i xs ++ x ∷ drop (suc i) xs)
-split xs x (i, low, is) =
-    let next : i + 1 ≡ suc i = omega arith in (
-      i,
-      slice_get_read xs (length xs) i x refl low (sym is),
-      sym (take-append-drop i xs) ∙ ap (λ rest. take i xs ++ rest) (drop_more xs i x low ∙ ap₂ (λ y n. y ∷ drop n xs) is next),
-    )
+use Rattle.seg_text.specs.Decoding.{latin1, utf8, utf16}
+use Rattle.seg_text.proofs.GoingOn.{GoesOn}
 
 -- the last boundary of a cover is its end
 last-place : (found : Boundary) (boundaries : List Boundary) (end : ℕ) → RisesTo found.offset boundaries end → (before : List ℕ) × (offsets (found ∷ boundaries) ≡ before ++ end ∷ [])
@@ -134,10 +33,7 @@ module _ (find : List ℕ → List Boundary) (decode : List ℕ → Text) where
   abbrev found_in : List ℕ → List Boundary
   found_in units = boundaries_in find (decode units)
 
-  abbrev pub GoesOn : List ℕ → ℕ → Type 0
-  GoesOn units from = (before : List ℕ) × (offsets (found_in units) ≡ before ++ from ∷ map (λ place. from + place) (offsets (drop 1 (found_in (drop from units)))))
-
-  at-start : (units : List ℕ) (from : ℕ) → from ≡ 0 → IsCover 0 (length units) (found_in units) → GoesOn units from
+  at-start : (units : List ℕ) (from : ℕ) → from ≡ 0 → IsCover 0 (length units) (found_in units) → GoesOn find decode units from
   at-start units from none cover = rw none ([], on (found_in units) cover)
     where
       on : (boundaries : List Boundary) → IsCover 0 (length units) boundaries → offsets boundaries ≡ 0 ∷ map (λ place. 0 + place) (offsets (drop 1 boundaries))
@@ -145,7 +41,7 @@ module _ (find : List ℕ → List Boundary) (decode : List ℕ → Text) where
       on (found ∷ boundaries) (first, rises) = ap₂ (λ place places. place ∷ places) first (zero-later (offsets boundaries))
 
   behind-line : PartsBehind found_in line_feed → (units : List ℕ) (from : ℕ) (before second : List ℕ) → units ≡ (before ++ line_feed) ++ second → from ≡ length (before ++ line_feed)
-      → IsCover 0 (length (take from units)) (found_in (take from units)) → GoesOn units from
+      → IsCover 0 (length (take from units)) (found_in (take from units)) → GoesOn find decode units from
   behind-line parts units from before second is at cover =
       let first : List ℕ = before ++ line_feed in
       let front : take from units ≡ first = ap (take from) is ∙ take_at first second from (sym at) in
@@ -162,29 +58,9 @@ module _ (find : List ℕ → List Boundary) (decode : List ℕ → Text) where
       )
 
   pub behind-feeds : PartsBehind found_in line_feed → (units : List ℕ) (from : ℕ) → BeginsLine units from
-      → IsCover 0 (length units) (found_in units) → IsCover 0 (length (take from units)) (found_in (take from units)) → GoesOn units from
+      → IsCover 0 (length units) (found_in units) → IsCover 0 (length (take from units)) (found_in (take from units)) → GoesOn find decode units from
   behind-feeds parts units from (inl none) whole first = at-start units from none whole
   behind-feeds parts units from (inr (before, second, is, at)) whole first = behind-line parts units from before second is at first
-
-module _ (read : Reader ℕ) (reader : IsReader read) (find : List ℕ → List Boundary) where
-  pub behind-boundaries : HasRestart find → (units : List ℕ) (from : ℕ) → Contains (offsets (boundaries_in find (text_by read 0 units))) from
-      → GoesOn find (text_by read 0) units from
-  behind-boundaries restart units from has =
-      let places = offsets (boundaries_in find (text_by read 0 units)) in
-      let (i, at, is) = split places from has in
-      (take i places, is ∙ ap (λ later. take i places ++ from ∷ later) (goes-on read reader find units (restart (code_points (text_by read 0 units).items)) i from at))
-
-pub behind-utf8 : (find : List ℕ → List Boundary) → HasRestart find → (bytes : List ℕ) (from : ℕ) → Contains (offsets (boundaries_in find (utf8 bytes))) from → GoesOn find utf8 bytes from
-unfolding utf8_items
-behind-utf8 find restart bytes from has = behind-boundaries read_utf8 read_utf8-stable.reader find restart bytes from has
-
-pub behind-utf16 : (find : List ℕ → List Boundary) → HasRestart find → (units : List ℕ) (from : ℕ) → Contains (offsets (boundaries_in find (utf16 units))) from → GoesOn find utf16 units from
-unfolding utf16_items
-behind-utf16 find restart units from has = behind-boundaries read_utf16 read_utf16-stable.reader find restart units from has
-
-pub behind-latin1 : (find : List ℕ → List Boundary) → HasRestart find → (bytes : List ℕ) (from : ℕ) → Contains (offsets (boundaries_in find (latin1 bytes))) from → GoesOn find latin1 bytes from
-unfolding latin1_items
-behind-latin1 find restart bytes from has = behind-boundaries read_latin1 read_latin1-reader find restart bytes from has
 
 -- a line feed is one unit
 

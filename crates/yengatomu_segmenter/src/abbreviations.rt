@@ -12,7 +12,7 @@ use icu_segmenter::suppress::{AbbreviationError, Abbreviations};
 use std::alloc::Global;
 
 /// Why no abbreviations are loaded.
-#[derive(Clone, Copy, Debug, PartialEq, Eq)]
+#[derive(Clone, Copy, PartialEq, Eq)]
 pub enum Refusal {
     /// Out of memory.
     Memory,

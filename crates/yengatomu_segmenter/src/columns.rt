@@ -11,7 +11,7 @@ use icu_segmenter_data::grapheme_segmenter;
 use std::alloc::Global;
 
 /// Why columns aren't counted by cluster.
-#[derive(Clone, Copy, Debug, PartialEq, Eq)]
+#[derive(Clone, Copy, PartialEq, Eq)]
 pub enum Refusal {
     /// Out of memory.
     Memory,

@@ -22,7 +22,7 @@ const SCRIPTS: [Option<ComplexScript>; 6] = [
 ];
 
 /// Why no dictionary is loaded.
-#[derive(Clone, Copy, Debug, PartialEq, Eq)]
+#[derive(Clone, Copy, PartialEq, Eq)]
 pub enum Refusal {
     /// Out of memory.
     Memory,

@@ -60,14 +60,23 @@ fn parts(segmenter: &Segmenter)
 fn cover<I: Source>(segmenter: &Segmenter, text: I::Units)
     ensures { IsCover 0 (length (I.Units.units text)) (boundaries_in (find_by (finder_of segmenter.now)) (I.decode (I.Units.units text))) }
 {
+    let items = I::of(text);
     match segmenter {
-        Segmenter::Clusters(s) => SegmenterOf::<I>::cover(&s.as_borrowed(), text),
-        Segmenter::Words(s) => SegmenterOf::<I>::cover(&s.as_borrowed(), text),
+        Segmenter::Clusters(s) => {
+            let _ = s.as_borrowed().segment(items);
+        }
+        Segmenter::Words(s) => {
+            let _ = s.as_borrowed().segment(items);
+        }
         Segmenter::Sentences(s, known) => match known.as_ref() {
-            None => SegmenterOf::<I>::cover(&s.as_borrowed(), text),
+            None => {
+                let _ = s.as_borrowed().segment(items);
+            }
             Some(a) => SegmenterOf::<I>::cover(&suppressing(s, a), text),
         },
-        Segmenter::Lines(s, _) => SegmenterOf::<I>::cover(&s.as_borrowed(), text),
+        Segmenter::Lines(s, _) => {
+            let _ = s.as_borrowed().segment(items);
+        }
     }
 }
 

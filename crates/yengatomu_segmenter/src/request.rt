@@ -7,7 +7,7 @@ ghost use Rattle.yengatomu_segmenter.specs.Options.{finder_asked, line_rules_for
 use icu_segmenter::options::{LineBreakStrictness, LineBreakWordOption};
 
 /// The kind of a segmenter.
-#[derive(Clone, Copy, Debug, PartialEq, Eq)]
+#[derive(Clone, Copy, PartialEq, Eq)]
 pub enum Kind {
     Clusters,
     Words,
@@ -31,7 +31,7 @@ const WORD_OPTIONS: [LineBreakWordOption; 3] = [
 ];
 
 /// The options of lines.
-#[derive(Clone, Copy, Debug)]
+#[derive(Clone, Copy)]
 pub struct LineOptions {
     pub strictness: LineBreakStrictness,
     pub word_option: LineBreakWordOption,
@@ -39,7 +39,7 @@ pub struct LineOptions {
 }
 
 /// The numbers of the options of lines.
-#[derive(Clone, Copy, Debug)]
+#[derive(Clone, Copy)]
 pub struct LineNumbers {
     pub strictness: u32,
     pub word_break: u32,
@@ -47,7 +47,7 @@ pub struct LineNumbers {
 }
 
 /// A segmenter over Unicode's data.
-#[derive(Clone, Copy, Debug)]
+#[derive(Clone, Copy)]
 pub enum Request {
     Clusters,
     Words,

@@ -17,7 +17,7 @@ use std::alloc::Global;
 use std::str;
 
 /// Why a text makes no segmenter.
-#[derive(Clone, Copy, Debug, PartialEq, Eq)]
+#[derive(Clone, Copy, PartialEq, Eq)]
 pub enum Complaint {
     /// Out of memory.
     Memory,

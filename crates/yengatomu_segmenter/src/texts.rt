@@ -2,7 +2,7 @@
 //! ill-formed UTF-16 by `Utf16Indices`, and Latin-1 by `Latin1Indices`. Places are units of the text.
 
 ghost use Rattle.std.specs.Prelude.{◌≡◌, ◌+◌, ◌<◌, ◌^◌, drop, length, min};
-ghost use Rattle.icu_segmenter.specs.NearBoundaries.{IsNearestAbove, IsNearestBelow};
+ghost use Rattle.icu_segmenter.specs.NearBoundaries.{IsNearestAbove, IsNearestBelow, places_of_units};
 ghost use Rattle.icu_segmenter.specs.Filled.{IsFilled, TakesFirst};
 ghost use Rattle.yengatomu_segmenter.specs.Finders.{finder_of, marks_behind, places_behind, places_in};
 ghost use Rattle.yengatomu_segmenter.specs.Words.{word_count};
@@ -122,12 +122,32 @@ pub fn count_words<I: Source>(segmenter: &Segmenter, text: I::Units) -> usize
 pub fn next<T: CursorText>(segmenter: &Segmenter, text: T, place: usize) -> Option<usize>
     ensures nearest { IsNearestAbove (places_in (finder_of segmenter.now) T.Source.decode (T.units text)) place result }
 {
-    by_kind!(segmenter, held => BoundaryCursor::over(held, text).next_boundary(place))
+    by_kind!(segmenter, held => next_by(held, text, place))
+}
+
+fn next_by<T: CursorText, S: SegmenterOf<T::Source>>(
+    segmenter: S,
+    text: T,
+    place: usize,
+) -> Option<usize>
+    ensures { IsNearestAbove (places_of_units T.Source.decode (S.find segmenter) (T.units text)) place result }
+{
+    BoundaryCursor::over(segmenter, text).next_boundary(place)
 }
 
 /// The nearest boundary below a place.
 pub fn previous<T: CursorText>(segmenter: &Segmenter, text: T, place: usize) -> Option<usize>
     ensures nearest { IsNearestBelow (places_in (finder_of segmenter.now) T.Source.decode (T.units text)) place result }
 {
-    by_kind!(segmenter, held => BoundaryCursor::over(held, text).previous_boundary(place))
+    by_kind!(segmenter, held => previous_by(held, text, place))
+}
+
+fn previous_by<T: CursorText, S: SegmenterOf<T::Source>>(
+    segmenter: S,
+    text: T,
+    place: usize,
+) -> Option<usize>
+    ensures { IsNearestBelow (places_of_units T.Source.decode (S.find segmenter) (T.units text)) place result }
+{
+    BoundaryCursor::over(segmenter, text).previous_boundary(place)
 }

@@ -4,6 +4,7 @@ ghost use Rattle.std.specs.Prelude.{◌≡◌, ℕ, List, length};
 ghost use Rattle.seg_text.specs.Boundaries.{AreSameCounted, HasRestart, IsCover, HasOneAnswer};
 ghost use Rattle.seg_text.specs.Decoding.{utf8, utf16};
 ghost use Rattle.seg_text.specs.Items.{code_points};
+ghost use Rattle.seg_clusters.specs.Certain.{AlwaysBreaks, AreCertain};
 ghost use Rattle.seg_clusters.specs.Rules.{PartsTexts, ResetsAfter, boundaries_by, boundaries_of, first_stretch};
 ghost use Rattle.seg_clusters.specs.Clusters.{cluster_rules, clusters_left};
 
@@ -61,6 +62,19 @@ pub fn parts_behind_resets(segmenter: GraphemeClusterSegmenterBorrowed<'_>, code
     ensures { ResetsAfter (cluster_rules segmenter.entry) code_point → PartsTexts (boundaries_by (cluster_rules segmenter.entry)) code_point }
 {
     engine::parts_behind_resets(segmenter.engine, code_point);
+}
+
+/// Law: each list that has three code points one after another, of which `always_breaks` says so, has a boundary between the last two,
+/// whatever stands before and behind them. What stands behind it has the boundaries that it has alone (`restart`).
+pub fn certain_places(
+    segmenter: GraphemeClusterSegmenterBorrowed<'_>,
+    before: u32,
+    one: u32,
+    other: u32,
+)
+    ensures { AreCertain (cluster_rules segmenter.entry) before one other → AlwaysBreaks (boundaries_by (cluster_rules segmenter.entry)) before one other }
+{
+    engine::certain_places(segmenter.engine, before, one, other);
 }
 
 /// Law: the clusters of a `str` are those of its bytes as UTF-8, since a `str` is the special case of UTF-8 in which no

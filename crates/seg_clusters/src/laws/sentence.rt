@@ -4,6 +4,7 @@ ghost use Rattle.std.specs.Prelude.{◌≡◌, ℕ, List, length};
 ghost use Rattle.seg_text.specs.Boundaries.{AreSameCounted, HasRestart, IsCover, HasOneAnswer};
 ghost use Rattle.seg_text.specs.Decoding.{utf8, utf16};
 ghost use Rattle.seg_text.specs.Items.{code_points};
+ghost use Rattle.seg_clusters.specs.Certain.{AlwaysBreaks, AreCertain};
 ghost use Rattle.seg_clusters.specs.Rules.{PartsTexts, ResetsAfter, boundaries_by, boundaries_of, first_stretch};
 ghost use Rattle.seg_clusters.specs.Clusters.{sentence_rules, sentences_left};
 
@@ -61,4 +62,12 @@ pub fn parts_behind_resets(segmenter: SentenceSegmenterBorrowed<'_>, code_point:
     ensures { ResetsAfter (sentence_rules segmenter.entry) code_point → PartsTexts (boundaries_by (sentence_rules segmenter.entry)) code_point }
 {
     engine::parts_behind_resets(segmenter.engine, code_point);
+}
+
+/// Law: each list that has three code points one after another, of which `always_breaks` says so, has a boundary between the last two,
+/// whatever stands before and behind them. What stands behind it has the boundaries that it has alone (`restart`).
+pub fn certain_places(segmenter: SentenceSegmenterBorrowed<'_>, before: u32, one: u32, other: u32)
+    ensures { AreCertain (sentence_rules segmenter.entry) before one other → AlwaysBreaks (boundaries_by (sentence_rules segmenter.entry)) before one other }
+{
+    engine::certain_places(segmenter.engine, before, one, other);
 }

@@ -6,7 +6,7 @@ use seg_line_rules::options::LineStyle;
 pub use seg_line_rules::options::{LineBreakOptions, LineBreakStrictness, LineBreakWordOption};
 
 /// A tailoring of the line machine, by its name.
-#[derive(Clone, Copy, Debug, PartialEq, Eq)]
+#[derive(Clone, Copy, PartialEq, Eq)]
 pub(crate) enum Tailoring {
     /// Words may be broken anywhere.
     BreakAll,
@@ -25,7 +25,7 @@ pub(crate) enum Tailoring {
 }
 
 /// A machine that options choose.
-#[derive(Clone, Copy, Debug, PartialEq, Eq)]
+#[derive(Clone, Copy, PartialEq, Eq)]
 pub(crate) enum MachineChoice {
     /// The machine of grapheme clusters.
     Clusters,

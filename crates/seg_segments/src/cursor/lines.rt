@@ -5,7 +5,7 @@ ghost use Rattle.seg_lines.specs.Lines.{line_rules};
 
 use crate::cursor::{Segmenter, SegmenterOf};
 use crate::segments::Source;
-use seg_lines::laws::parts_behind_resets;
+use seg_lines::laws::{certain_places, parts_behind_resets};
 use seg_lines::line::{LineBreakIterator, LineSegmenterBorrowed};
 
 impl<'data> Segmenter for LineSegmenterBorrowed<'data> {
@@ -14,6 +14,16 @@ impl<'data> Segmenter for LineSegmenterBorrowed<'data> {
     fn parts_behind_line_feeds(&self) -> bool {
         parts_behind_resets(*self, '\n');
         self.resets_after('\n')
+    }
+
+    fn has_certain_places(&self) -> bool {
+        certain_places(*self, 0, 0, 0);
+        (*self).has_certain_places()
+    }
+
+    fn always_breaks(&self, before: u32, one: u32, other: u32) -> bool {
+        certain_places(*self, before, one, other);
+        (*self).always_breaks(before, one, other)
     }
 }
 

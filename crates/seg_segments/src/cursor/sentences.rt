@@ -5,7 +5,7 @@ ghost use Rattle.seg_clusters.specs.Rules.{boundaries_by};
 
 use crate::cursor::{Segmenter, SegmenterOf};
 use crate::segments::Source;
-use seg_clusters::laws::sentence::parts_behind_resets;
+use seg_clusters::laws::sentence::{certain_places, parts_behind_resets, restart};
 use seg_clusters::sentence::{SentenceBreakIterator, SentenceSegmenterBorrowed};
 
 impl<'data> Segmenter for SentenceSegmenterBorrowed<'data> {
@@ -14,6 +14,16 @@ impl<'data> Segmenter for SentenceSegmenterBorrowed<'data> {
     fn parts_behind_line_feeds(&self) -> bool {
         parts_behind_resets(*self, '\n');
         self.resets_after('\n')
+    }
+
+    fn has_certain_places(&self) -> bool {
+        restart(*self);
+        (*self).has_certain_places()
+    }
+
+    fn always_breaks(&self, before: u32, one: u32, other: u32) -> bool {
+        certain_places(*self, before, one, other);
+        (*self).always_breaks(before, one, other)
     }
 }
 

@@ -15,6 +15,15 @@ impl<'data> Segmenter for SuppressingSegmenter<'data> {
         parts_behind_line_feeds(self.abbreviations, self.sentences);
         self.sentences.resets_after('\n')
     }
+
+    // What an abbreviation leaves depends on what stands before it.
+    fn has_certain_places(&self) -> bool {
+        false
+    }
+
+    fn always_breaks(&self, _before: u32, _one: u32, _other: u32) -> bool {
+        false
+    }
 }
 
 impl<'data, I: Source> SegmenterOf<I> for SuppressingSegmenter<'data> {

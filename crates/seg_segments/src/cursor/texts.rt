@@ -4,6 +4,7 @@ ghost use Rattle.std.specs.Prelude.{◌≡◌, ◌==◌, ◌<◌, ◌≤◌, IsT
 ghost use Rattle.seg_text.specs.Decoding.{utf8, utf16};
 ghost use Rattle.seg_clusters.specs.Rules.{PartsBehind};
 ghost use Rattle.seg_segments.specs.NearBoundaries.{boundaries_of_units, line_feed};
+ghost use Rattle.seg_segments.specs.TextSegments.{IsPlace};
 
 use crate::cursor::Segmenter;
 use crate::segments::{Source, Units};
@@ -23,6 +24,11 @@ pub trait CursorText: Units {
     fn has_line_feed_at(self, index: usize) -> bool
         requires { index < length (Self.units self) }
         ensures { result ≡ (slice_index (Self.units self) index == 0x0A) };
+
+    /// Whether the unit at an index tells that an item begins there. If `false`, nothing is said.
+    fn begins_item(self, index: usize) -> bool
+        requires { index < length (Self.units self) }
+        ensures { IsTrue result → IsPlace (Self.Source.decode (Self.units self)) index };
 
     /// What stands before a place, and what stands from there on. O(1), takes no memory.
     fn parts_at(self, place: usize) -> (Self, Self)
@@ -44,6 +50,12 @@ impl<'s> CursorText for &'s [u8] {
         self[index] == 0x0A
     }
 
+    // A byte that goes on no sequence, by Unicode's Table 3-7.
+    fn begins_item(self, index: usize) -> bool {
+        let byte = self[index];
+        byte < 0x80 || byte > 0xBF
+    }
+
     fn parts_at(self, place: usize) -> (&'s [u8], &'s [u8]) {
         self.split_at(place)
     }
@@ -60,6 +72,11 @@ impl<'s> CursorText for &'s [u16] {
 
     fn has_line_feed_at(self, index: usize) -> bool {
         self[index] == 0x0A
+    }
+
+    // A unit that is no low surrogate.
+    fn begins_item(self, index: usize) -> bool {
+        self[index] & 0xFC00 != 0xDC00
     }
 
     fn parts_at(self, place: usize) -> (&'s [u16], &'s [u16]) {

@@ -4,7 +4,7 @@ ghost use Rattle.std.specs.Prelude.{◌≡◌, ◌==◌};
 ghost use Rattle.seg_lines.specs.LineBreaks.{line_boundaries_by};
 ghost use Rattle.seg_lines.specs.Lines.{line_finder, lines_left, lines_source};
 
-use crate::segments::{BreakIterator, Source, StatusBreaks, copy_of};
+use crate::segments::{BreakIterator, ForkBreaks, Source, StatusBreaks, copy_of};
 use seg_lines::line::LineBreakIterator;
 
 impl<'data, I: Source> BreakIterator for LineBreakIterator<'data, I> {
@@ -37,7 +37,9 @@ impl<'data, I: Source> BreakIterator for LineBreakIterator<'data, I> {
     fn fill(&mut self, places: &mut [usize]) -> usize {
         self.fill(places)
     }
+}
 
+impl<'data, I: Source> ForkBreaks for LineBreakIterator<'data, I> {
     fn fork(&self) -> Self {
         copy_of(self)
     }

@@ -5,7 +5,7 @@ ghost use Rattle.seg_clusters.specs.Rules.{boundaries_by};
 ghost use Rattle.seg_clusters.specs.Clusters.{sentence_finder, sentences_left, sentences_source};
 ghost use Rattle.seg_segments.specs.TextSegments.{nothing};
 
-use crate::segments::{BreakIterator, Source, StatusBreaks, copy_of};
+use crate::segments::{BreakIterator, ForkBreaks, Source, StatusBreaks, copy_of};
 use seg_clusters::sentence::SentenceBreakIterator;
 
 impl<'data, I: Source> BreakIterator for SentenceBreakIterator<'data, I> {
@@ -38,7 +38,9 @@ impl<'data, I: Source> BreakIterator for SentenceBreakIterator<'data, I> {
     fn fill(&mut self, places: &mut [usize]) -> usize {
         self.fill(places)
     }
+}
 
+impl<'data, I: Source> ForkBreaks for SentenceBreakIterator<'data, I> {
     fn fork(&self) -> Self {
         copy_of(self)
     }

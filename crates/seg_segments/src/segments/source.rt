@@ -1,6 +1,9 @@
 //! The cursors at whose start a text is had back in its units, one for each encoding.
 
-ghost use Rattle.std.specs.Prelude.{◌≡◌, ℕ, List, length};
+ghost use Rattle.std.specs.Prelude.{◌≡◌, ℕ, List, Contains, length};
+ghost use Rattle.seg_text.specs.declared.boundary.Boundary.{Boundary};
+ghost use Rattle.seg_text.specs.Boundaries.{HasRestart, boundaries_in, offsets};
+ghost use Rattle.seg_text.proofs.GoingOn.{GoesOn, behind-latin1, behind-utf16, behind-utf8};
 ghost use Rattle.seg_text.specs.Decoding.{latin1, utf8, utf16};
 ghost use Rattle.seg_text.specs.Items.{Text, start_of};
 ghost use Rattle.seg_segments.specs.TextSegments.{IsPlace};
@@ -33,6 +36,10 @@ pub trait Source: Cursor {
 
     /// Law: a text may be cut at the places of its items.
     ghost places: { (text : Self.Units) (place : ℕ) → IsPlace (decode (Self.Units.units text)) place → Self.Units.MayCut text place };
+
+    /// Law: where lists may be cut anew from each of their boundaries, the places of a text behind one of them are those of the rest.
+    ghost goes_on: { (find : List ℕ → List Boundary) → HasRestart find → (whole : List ℕ) (from : ℕ)
+        → Contains (offsets (boundaries_in find (decode whole))) from → GoesOn find decode whole from };
 }
 
 impl<'s> Source for StrCharIndices<'s> {
@@ -51,6 +58,8 @@ impl<'s> Source for StrCharIndices<'s> {
     }
 
     ghost places = { λ _ _ place. place };
+
+    ghost goes_on = { behind-utf8 };
 }
 
 impl<'s> Source for Utf8CharIndices<'s> {
@@ -69,6 +78,8 @@ impl<'s> Source for Utf8CharIndices<'s> {
     }
 
     ghost places = { λ _ _ _. tt };
+
+    ghost goes_on = { behind-utf8 };
 }
 
 impl<'s> Source for Latin1Indices<'s> {
@@ -87,6 +98,8 @@ impl<'s> Source for Latin1Indices<'s> {
     }
 
     ghost places = { λ _ _ _. tt };
+
+    ghost goes_on = { behind-latin1 };
 }
 
 impl<'s> Source for Utf16Indices<'s> {
@@ -105,4 +118,6 @@ impl<'s> Source for Utf16Indices<'s> {
     }
 
     ghost places = { λ _ _ _. tt };
+
+    ghost goes_on = { behind-utf16 };
 }

@@ -4,7 +4,7 @@ ghost use Rattle.std.specs.Prelude.{◌≡◌};
 ghost use Rattle.seg_words.specs.WordRules.{type_of, word_boundaries_by};
 ghost use Rattle.seg_words.specs.Words.{word_finder, words_left, words_source};
 
-use crate::segments::{BreakIterator, Source, StatusBreaks, WordBreaks, copy_of};
+use crate::segments::{BreakIterator, ForkBreaks, Source, StatusBreaks, WordBreaks, copy_of};
 use seg_words::word::{WordBreakIterator, WordType, type_of};
 
 impl<'data, I: Source> BreakIterator for WordBreakIterator<'data, I> {
@@ -37,7 +37,9 @@ impl<'data, I: Source> BreakIterator for WordBreakIterator<'data, I> {
     fn fill(&mut self, places: &mut [usize]) -> usize {
         self.fill(places)
     }
+}
 
+impl<'data, I: Source> ForkBreaks for WordBreakIterator<'data, I> {
     fn fork(&self) -> Self {
         copy_of(self)
     }

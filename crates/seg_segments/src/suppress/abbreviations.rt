@@ -8,6 +8,7 @@ ghost use Rattle.seg_segments.specs.InLines.{AreInLines};
 
 use seg_data::provider::{DictionaryBreakData, DictionaryCursor};
 use std::alloc::Global;
+use std::fmt;
 use thiserror::Error;
 
 /// Why there are no abbreviations.
@@ -23,10 +24,15 @@ pub enum AbbreviationError {
 
 /// A set of abbreviations, as `Mr.`, `e.g.` or `z. B.`: whole words with their full stops, and with spaces where they have some.
 /// Upper and lower case differ.
-#[derive(Debug)]
 pub struct Abbreviations {
     words: DictionaryBreakData,
     ghost in_lines: { AreInLines (words_of words) },
+}
+
+impl fmt::Debug for Abbreviations {
+    fn fmt<W: fmt::Write>(&self, f: &mut fmt::Formatter<W>) -> fmt::Result {
+        f.write_str("Abbreviations { .. }")
+    }
 }
 
 // Written out, so that it is proved here and not in each program.

@@ -7,17 +7,15 @@ ghost use Rattle.seg_data.specs.ScriptWords.{words_after};
 ghost use Rattle.seg_segments.specs.TextSegments.{marked};
 ghost use Rattle.seg_segments.specs.Kept.{left_of, AreAscending};
 
-use crate::segments::BreakIterator;
+use crate::segments::{BreakIterator, ForkBreaks};
 use crate::suppress::starts::Starts;
 use seg_data::provider::DictionaryCursor;
 use seg_text::cursor::Cursor;
 use seg_text::reach::Reach;
-use std::fmt::Debug;
 use std::marker::Model;
 
 /// Boundaries without those before which a text ends with one of some words.
 #[derive(Drop)]
-#[derive_where(Debug; B: Debug, I: Debug)]
 pub(super) struct Kept<'data, B: BreakIterator, I: Cursor> {
     breaks: B,
     starts: Starts<'data, I>,
@@ -53,16 +51,6 @@ impl<'data, B: BreakIterator, I: Cursor> Kept<'data, B, I> {
         }
     }
 
-    /// What is left of the boundaries, once more.
-    pub(super) fn fork(&self) -> Self
-        ensures { result ≡ self.now }
-    {
-        Kept {
-            breaks: self.breaks.fork(),
-            starts: self.starts.fork(),
-        }
-    }
-
     /// The next boundary that stays.
     pub(super) fn next_break(&mut self) -> Option<(usize, B::Mark)>
         ensures { YieldsFirst (λ left. marked B.mark left) self.old result self.new }
@@ -76,9 +64,20 @@ impl<'data, B: BreakIterator, I: Cursor> Kept<'data, B, I> {
     }
 }
 
+impl<'data, B: ForkBreaks, I: Cursor> Kept<'data, B, I> {
+    /// What is left of the boundaries, once more.
+    pub(super) fn fork(&self) -> Self
+        ensures { result ≡ self.now }
+    {
+        Kept {
+            breaks: self.breaks.fork(),
+            starts: self.starts.fork(),
+        }
+    }
+}
+
 /// The boundaries that stay, with how far they were given: so it is known how many are left at least and at most.
 #[derive(Drop)]
-#[derive_where(Debug; B: Debug, I: Debug)]
 pub(super) struct HintedKept<'data, B: BreakIterator, I: Cursor> {
     kept: Kept<'data, B, I>,
     reach: Reach,
@@ -112,16 +111,6 @@ impl<'data, B: BreakIterator, I: Cursor> HintedKept<'data, B, I> {
         }
     }
 
-    /// What is left of the boundaries, once more.
-    pub(super) fn fork(&self) -> Self
-        ensures { result ≡ self.now }
-    {
-        HintedKept {
-            kept: self.kept.fork(),
-            reach: self.reach,
-        }
-    }
-
     /// The next boundary that stays.
     pub(super) fn next_break(&mut self) -> Option<(usize, B::Mark)>
         ensures { YieldsFirst (λ left. marked B.mark left) self.old result self.new }
@@ -137,5 +126,17 @@ impl<'data, B: BreakIterator, I: Cursor> HintedKept<'data, B, I> {
         ensures upper { IfSome result.1 (λ most. length self.now ≤ most) }
     {
         self.reach.size_hint()
+    }
+}
+
+impl<'data, B: ForkBreaks, I: Cursor> HintedKept<'data, B, I> {
+    /// What is left of the boundaries, once more.
+    pub(super) fn fork(&self) -> Self
+        ensures { result ≡ self.now }
+    {
+        HintedKept {
+            kept: self.kept.fork(),
+            reach: self.reach,
+        }
     }
 }

@@ -12,14 +12,21 @@ use crate::segments::Source;
 use crate::suppress::{Abbreviations, SentenceBreaks, SuppressedBreaks};
 use seg_clusters::sentence::{SentenceBreakIterator, SentenceSegmenterBorrowed};
 use seg_text::indices::{Latin1Indices, StrCharIndices, Utf8CharIndices, Utf16Indices};
+use std::fmt;
 
 /// Finds sentences, but for the boundaries before which the text ends with an abbreviation.
-#[derive(Clone, Copy, Debug)]
+#[derive(Clone, Copy)]
 pub struct SuppressingSegmenter<'data> {
     /// What finds all boundaries.
     pub sentences: SentenceSegmenterBorrowed<'data>,
     /// The abbreviations.
     pub abbreviations: &'data Abbreviations,
+}
+
+impl<'data> fmt::Debug for SuppressingSegmenter<'data> {
+    fn fmt<W: fmt::Write>(&self, f: &mut fmt::Formatter<W>) -> fmt::Result {
+        f.write_str("SuppressingSegmenter { .. }")
+    }
 }
 
 impl<'data> SuppressingSegmenter<'data> {

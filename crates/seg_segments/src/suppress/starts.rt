@@ -12,7 +12,7 @@ use seg_data::words::WordCursor;
 use seg_text::cursor::Cursor;
 
 /// What stands between a place and a boundary.
-#[derive(Clone, Copy, Debug)]
+#[derive(Clone, Copy)]
 enum Reading {
     /// A word, and after it spaces alone.
     Word,
@@ -23,7 +23,7 @@ enum Reading {
 }
 
 /// The first place from which a word may still end at a boundary.
-#[derive(Debug, Drop)]
+#[derive(Drop)]
 pub struct Starts<'data, I: Cursor> {
     /// The words, of which nothing was read.
     pub words: DictionaryCursor<'data>,

@@ -2,15 +2,17 @@
 
 ghost use Rattle.std.specs.Prelude.{◌≡◌, ◌+◌, ◌<◌, ◌^◌, IfErr, IfOk, map};
 ghost use Rattle.seg_balance.specs.Balanced.{total_columns};
+ghost use Rattle.seg_lines.specs.Lines.{lines_left};
 ghost use Rattle.seg_wrap.specs.Paragraphs.{GivesParagraph};
 ghost use Rattle.seg_wrap.specs.Pieces.{EndWithPieces, IsParagraph, measured_piece, spans_at};
 ghost use Rattle.seg_wrap.specs.Walk.{AreCuts, measure_of};
 ghost use Rattle.seg_wrap.specs.Wrapping.{segments_from};
 
-use crate::wrap::breaks::Breaks;
+use crate::wrap::breaks::fork;
 use crate::wrap::measure::Measuring;
 use crate::wrap::wrapping::{Piece, Span, next_piece};
 use seg_balance::balance::{BalancedLine, MeasuredSegment, balanced};
+use seg_lines::line::LineBreakIterator;
 use seg_text::cursor::Cursor;
 use std::alloc::{AllocError, Global};
 use std::fmt;
@@ -22,8 +24,8 @@ use std::marker::Model;
 /// A line of several segments has at most the columns, and a line ends at each break where it must: there a paragraph ends. Of all such lines
 /// these cost the least, where a line costs the square of the columns that it leaves free, but the last of a paragraph nothing. Among lines
 /// that cost the same, the first has as many segments as it can, then the second, and so on. So there is one answer.
-pub struct BalancedParagraphs<'data, I: Cursor, B: Breaks> {
-    breaks: B,
+pub struct BalancedParagraphs<'data, I: Cursor> {
+    breaks: LineBreakIterator<'data, I>,
     // The text from the next paragraph on.
     rest: I,
     columns: u32,
@@ -31,14 +33,14 @@ pub struct BalancedParagraphs<'data, I: Cursor, B: Breaks> {
 }
 
 // Written out: a derived one, of all that it holds, is dear to prove.
-impl<'data, I: Cursor, B: Breaks> fmt::Debug for BalancedParagraphs<'data, I, B> {
+impl<'data, I: Cursor> fmt::Debug for BalancedParagraphs<'data, I> {
     fn fmt<W: fmt::Write>(&self, f: &mut fmt::Formatter<W>) -> fmt::Result {
         f.write_str("BalancedParagraphs { .. }")
     }
 }
 
 // Written out, so that it is proved here and not in each program that wraps.
-impl<'data, I: Cursor, B: Breaks> Drop for BalancedParagraphs<'data, I, B> {
+impl<'data, I: Cursor> Drop for BalancedParagraphs<'data, I> {
     fn drop(self) {
         let BalancedParagraphs {
             breaks: _,
@@ -49,24 +51,30 @@ impl<'data, I: Cursor, B: Breaks> Drop for BalancedParagraphs<'data, I, B> {
     }
 }
 
-impl<'data, I: Cursor, B: Breaks> Model for BalancedParagraphs<'data, I, B> {
+impl<'data, I: Cursor> Model for BalancedParagraphs<'data, I> {
+    ghost use Rattle.seg_lines.specs.Lines.{lines_left};
     ghost use Rattle.seg_wrap.specs.Paragraphs.{ParagraphsLeft};
     ghost use Rattle.seg_wrap.specs.Walk.{AreCuts, measure_of};
     ghost use Rattle.seg_wrap.specs.Wrapping.{segments_from};
 
     ghost Value = { ParagraphsLeft };
 
-    ghost view = { λ s. record { text = I.text s.rest; segments = segments_from (measure_of s.measuring) (I.text s.rest) (B.left s.breaks); limit = s.columns } };
+    ghost view = { λ s. record { text = I.text s.rest; segments = segments_from (measure_of s.measuring) (I.text s.rest) (lines_left s.breaks); limit = s.columns } };
 
-    ghost invariant = { λ s. AreCuts (I.text s.rest) (B.left s.breaks) };
+    ghost invariant = { λ s. AreCuts (I.text s.rest) (lines_left s.breaks) };
 }
 
-impl<'data, I: Cursor, B: Breaks> BalancedParagraphs<'data, I, B> {
+impl<'data, I: Cursor> BalancedParagraphs<'data, I> {
     /// The paragraphs of a text that has these breaks after its start.
-    pub(crate) fn new(breaks: B, rest: I, columns: u32, measuring: Measuring<'data>) -> Self
-        requires { AreCuts (I.text rest) (B.left breaks) }
+    pub(crate) fn new(
+        breaks: LineBreakIterator<'data, I>,
+        rest: I,
+        columns: u32,
+        measuring: Measuring<'data>,
+    ) -> Self
+        requires { AreCuts (I.text rest) (lines_left breaks) }
         ensures text { result.text ≡ I.text rest }
-        ensures segments { result.segments ≡ segments_from (measure_of measuring.entry) (I.text rest) (B.left breaks) }
+        ensures segments { result.segments ≡ segments_from (measure_of measuring.entry) (I.text rest) (lines_left breaks.entry) }
         ensures limit { result.limit ≡ columns }
     {
         BalancedParagraphs {
@@ -86,7 +94,7 @@ impl<'data, I: Cursor, B: Breaks> BalancedParagraphs<'data, I, B> {
     {
         // So each place in the text is a number of this type.
         let _end = self.rest.end();
-        let mut breaks = self.breaks.fork();
+        let mut breaks = fork(&self.breaks);
         let mut after = self.rest.fork();
         let pieces = paragraph(alloc, &mut breaks, &mut after, &self.rest, self.measuring)?;
         let segments = measured(alloc, pieces.as_slice())?;
@@ -104,17 +112,17 @@ impl<'data, I: Cursor, B: Breaks> BalancedParagraphs<'data, I, B> {
 }
 
 // The pieces of the first paragraph. The cursor goes over them. The text itself, `rest`, is what the contract speaks of.
-fn paragraph<I: Cursor, B: Breaks>(
+fn paragraph<I: Cursor>(
     alloc: Global,
-    breaks: &mut B,
+    breaks: &mut LineBreakIterator<'_, I>,
     after: &mut I,
     rest: &I,
     measuring: Measuring<'_>,
 ) -> Result<Vec<Piece>, AllocError>
-    requires cuts { AreCuts (I.text after.old) (B.left breaks.old) }
+    requires cuts { AreCuts (I.text after.old) (lines_left breaks.old) }
     requires at { I.text after.old ≡ I.text rest.now }
     ensures { IfOk result (λ pieces. IsParagraph (measure_of measuring.entry) (I.text rest.now)
-        (segments_from (measure_of measuring.entry) (I.text rest.now) (B.left breaks.old)) pieces.items (I.text after.new) (B.left breaks.new)) }
+        (segments_from (measure_of measuring.entry) (I.text rest.now) (lines_left breaks.old)) pieces.items (I.text after.new) (lines_left breaks.new)) }
 {
     let mut pieces = Vec::new(alloc);
     'pieces: while let Some(piece) = next_piece(breaks, after, measuring) {

@@ -1,49 +1,38 @@
 //! Where lines may end.
 
-ghost use Rattle.std.specs.Prelude.{◌≡◌, List};
+ghost use Rattle.std.specs.Prelude.{◌≡◌};
 ghost use Rattle.seg_lines.specs.Lines.{lines_left};
-ghost use Rattle.seg_text.specs.declared.boundary.Boundary.{Boundary};
 ghost use Rattle.seg_wrap.specs.Walk.{ReadsBreak};
 
 use seg_lines::line::LineBreakIterator;
 use seg_text::cursor::Cursor;
 
 /// A place where a line may end.
-#[derive(Clone, Copy, Debug)]
-pub struct Break {
+#[derive(Clone, Copy)]
+pub(crate) struct Break {
     /// The place, in units.
-    pub end: usize,
+    pub(crate) end: usize,
     /// Whether the line must end there.
-    pub is_mandatory: bool,
+    pub(crate) is_mandatory: bool,
 }
 
-/// What gives the breaks of a text, in order.
-pub trait Breaks: Drop {
-    /// The boundaries that are still to come.
-    ghost left: { Self → List Boundary };
-
-    /// The next break. None at the end, and from then on.
-    fn next_break(&mut self) -> Option<Break>
-        ensures { ReadsBreak (left self.old) result (left self.new) };
-
-    /// What is left of the breaks, once more. Takes no memory and never fails.
-    fn fork(&self) -> Self
-        ensures { left result ≡ left self.now };
+/// The next break. None at the end, and from then on.
+pub(crate) fn next_break<I: Cursor>(breaks: &mut LineBreakIterator<'_, I>) -> Option<Break>
+    ensures { ReadsBreak (lines_left breaks.old) result (lines_left breaks.new) }
+{
+    let end = breaks.next()?;
+    let is_mandatory = breaks.is_mandatory();
+    Some(Break { end, is_mandatory })
 }
 
-impl<'data, I: Cursor> Breaks for LineBreakIterator<'data, I> {
-    ghost left = { λ lines. lines_left lines };
-
-    fn next_break(&mut self) -> Option<Break> {
-        let end = self.next()?;
-        let is_mandatory = self.is_mandatory();
-        Some(Break { end, is_mandatory })
-    }
-
-    fn fork(&self) -> Self {
-        let Ok(copy) = self.clone() else {
-            unreachable!()
-        };
-        copy
-    }
+/// What is left of the breaks, once more. Takes no memory and never fails.
+pub(crate) fn fork<'data, I: Cursor>(
+    breaks: &LineBreakIterator<'data, I>,
+) -> LineBreakIterator<'data, I>
+    ensures { lines_left result ≡ lines_left breaks.now }
+{
+    let Ok(copy) = breaks.clone() else {
+        unreachable!()
+    };
+    copy
 }

@@ -28,7 +28,7 @@ fn is_trailing_space(code_point: u32) -> bool
 }
 
 /// The columns of some cells.
-#[derive(Clone, Copy, Debug)]
+#[derive(Clone, Copy)]
 pub(crate) struct Extent {
     /// Where they end a line: trailing white space isn't counted.
     pub(crate) columns: u128,

@@ -15,7 +15,7 @@ use seg_text::cursor::Cursor;
 use unicode_width::UnicodeWidthStr;
 
 /// How the characters of a segment are measured.
-#[derive(Clone, Copy, Debug)]
+#[derive(Clone, Copy)]
 pub(crate) enum Measuring<'data> {
     /// One by one.
     Characters,

@@ -10,7 +10,6 @@ ghost use Rattle.seg_wrap.specs.Wrapping.{rest_from};
 use crate::wrap::LineWrapper;
 use crate::wrap::balanced::BalancedParagraphs;
 use crate::wrap::wrapping::Wrapping;
-use seg_lines::line::LineBreakIterator;
 use seg_text::indices::Utf16Indices;
 use std::alloc::AllocError;
 use std::fmt;
@@ -38,7 +37,7 @@ impl<'data> LineWrapper<'data> {
         self,
         units: &'s [u16],
         columns: u32,
-    ) -> BalancedParagraphs<'data, Utf16Indices<'s>, LineBreakIterator<'data, Utf16Indices<'s>>>
+    ) -> BalancedParagraphs<'data, Utf16Indices<'s>>
         ensures { result ≡ paragraphs_of utf16 (wrapper_measure self.entry) (wrapper_rules self.entry) columns units.now }
     {
         let mut breaks = self.lines.segment_utf16(units);
@@ -83,7 +82,7 @@ impl<'s> WrappedUtf16Line<'s> {
 /// The lines of possibly ill-formed UTF-16, wrapped to columns. After None it stays None.
 pub struct WrapUtf16Iterator<'data, 's> {
     units: &'s [u16],
-    lines: Wrapping<'data, Utf16Indices<'s>, LineBreakIterator<'data, Utf16Indices<'s>>>,
+    lines: Wrapping<'data, Utf16Indices<'s>>,
     ghost rest: { lines.text ≡ rest_from (start_of lines.text) (utf16 units.now) },
 }
 

@@ -1,17 +1,19 @@
 //! Lines, wrapped to columns at any breaks.
 
 ghost use Rattle.std.specs.Prelude.{◌≡◌, ◌≤◌, ◌∷◌, List, length, IfSome};
+ghost use Rattle.seg_lines.specs.Lines.{lines_left};
 ghost use Rattle.seg_wrap.specs.Walk.{AreCuts, GivesLine, IsHeldPiece, IsFirstPiece, IsFirstSegment, line_at, lines_held, measure_of, rest_held, segment_at, segments_held};
 ghost use Rattle.seg_wrap.specs.Wrapping.{Cell, lines_from, rest_from, segments_from, wrapped_lines};
 
-use crate::wrap::breaks::Breaks;
+use crate::wrap::breaks::{fork, next_break};
 use crate::wrap::extent::Extent;
 use crate::wrap::measure::Measuring;
+use seg_lines::line::LineBreakIterator;
 use seg_text::cursor::Cursor;
 use std::marker::Model;
 
 /// A line of a wrapped text, by the places where it begins and ends.
-#[derive(Clone, Copy, Debug)]
+#[derive(Clone, Copy)]
 pub struct Span {
     /// Where it begins, in units.
     pub start: usize,
@@ -24,7 +26,7 @@ pub struct Span {
 }
 
 /// A piece of a text that ends where a line may.
-#[derive(Clone, Copy, Debug)]
+#[derive(Clone, Copy)]
 pub(crate) struct Piece {
     pub(crate) end: usize,
     pub(crate) extent: Extent,
@@ -32,7 +34,7 @@ pub(crate) struct Piece {
 }
 
 /// To how many columns lines are wrapped, and how these are counted.
-#[derive(Clone, Copy, Debug)]
+#[derive(Clone, Copy)]
 pub(crate) struct Setting<'data> {
     /// The columns.
     pub(crate) columns: usize,
@@ -41,8 +43,8 @@ pub(crate) struct Setting<'data> {
 }
 
 /// The lines of a text, wrapped to so many columns.
-pub(crate) struct Wrapping<'data, I: Cursor, B: Breaks> {
-    breaks: B,
+pub(crate) struct Wrapping<'data, I: Cursor> {
+    breaks: LineBreakIterator<'data, I>,
     // The text from the next line on.
     rest: I,
     // The text after the first segment of that line.
@@ -53,7 +55,7 @@ pub(crate) struct Wrapping<'data, I: Cursor, B: Breaks> {
 }
 
 // Written out, so that it is proved here and not in each program that wraps.
-impl<'data, I: Cursor, B: Breaks> Drop for Wrapping<'data, I, B> {
+impl<'data, I: Cursor> Drop for Wrapping<'data, I> {
     fn drop(self) {
         let Wrapping {
             breaks: _,
@@ -65,23 +67,28 @@ impl<'data, I: Cursor, B: Breaks> Drop for Wrapping<'data, I, B> {
     }
 }
 
-impl<'data, I: Cursor, B: Breaks> Model for Wrapping<'data, I, B> {
+impl<'data, I: Cursor> Model for Wrapping<'data, I> {
     ghost use Rattle.std.specs.Prelude.{◌≡◌};
+    ghost use Rattle.seg_lines.specs.Lines.{lines_left};
     ghost use Rattle.seg_wrap.specs.Walk.{IsHeldPiece, LinesLeft, lines_held, measure_of, rest_held};
 
     ghost Value = { LinesLeft };
 
-    ghost view = { λ s. record { text = I.text s.rest; lines = lines_held (measure_of s.setting.measuring) s.setting.columns (I.text s.rest) s.held (B.left s.breaks) } };
+    ghost view = { λ s. record { text = I.text s.rest; lines = lines_held (measure_of s.setting.measuring) s.setting.columns (I.text s.rest) s.held (lines_left s.breaks) } };
 
-    ghost invariant = { λ s. IsHeldPiece (measure_of s.setting.measuring) (I.text s.rest) s.held (B.left s.breaks) × (I.text s.after ≡ rest_held (I.text s.rest) s.held) };
+    ghost invariant = { λ s. IsHeldPiece (measure_of s.setting.measuring) (I.text s.rest) s.held (lines_left s.breaks) × (I.text s.after ≡ rest_held (I.text s.rest) s.held) };
 }
 
-impl<'data, I: Cursor, B: Breaks> Wrapping<'data, I, B> {
+impl<'data, I: Cursor> Wrapping<'data, I> {
     /// The lines of a text that has these breaks after its start.
-    pub(crate) fn new(mut breaks: B, text: I, setting: Setting<'data>) -> Self
-        requires { AreCuts (I.text text) (B.left breaks) }
+    pub(crate) fn new(
+        mut breaks: LineBreakIterator<'data, I>,
+        text: I,
+        setting: Setting<'data>,
+    ) -> Self
+        requires { AreCuts (I.text text) (lines_left breaks) }
         ensures text { result.text ≡ I.text text }
-        ensures lines { result.lines ≡ wrapped_lines setting.entry.columns (segments_from (measure_of setting.entry.measuring) (I.text text) (B.left breaks)) }
+        ensures lines { result.lines ≡ wrapped_lines setting.entry.columns (segments_from (measure_of setting.entry.measuring) (I.text text) (lines_left breaks.entry)) }
     {
         let mut after = text.fork();
         let held = next_piece(&mut breaks, &mut after, setting.measuring);
@@ -99,7 +106,7 @@ impl<'data, I: Cursor, B: Breaks> Wrapping<'data, I, B> {
         ensures { result ≡ self.now }
     {
         Wrapping {
-            breaks: self.breaks.fork(),
+            breaks: fork(&self.breaks),
             rest: self.rest.fork(),
             after: self.after.fork(),
             held: self.held,
@@ -143,18 +150,18 @@ impl<'data, I: Cursor, B: Breaks> Wrapping<'data, I, B> {
 }
 
 /// The piece up to the next break. The cursor goes over it.
-pub(crate) fn next_piece<I: Cursor, B: Breaks>(
-    breaks: &mut B,
+pub(crate) fn next_piece<I: Cursor>(
+    breaks: &mut LineBreakIterator<'_, I>,
     after: &mut I,
     measuring: Measuring<'_>,
 ) -> Option<Piece>
-    requires { AreCuts (I.text after.old) (B.left breaks.old) }
-    ensures segments { segments_held (measure_of measuring.entry) (I.text after.old) result (B.left breaks.new)
-        ≡ segments_from (measure_of measuring.entry) (I.text after.old) (B.left breaks.old) }
-    ensures held { IsHeldPiece (measure_of measuring.entry) (I.text after.old) result (B.left breaks.new) }
+    requires { AreCuts (I.text after.old) (lines_left breaks.old) }
+    ensures segments { segments_held (measure_of measuring.entry) (I.text after.old) result (lines_left breaks.new)
+        ≡ segments_from (measure_of measuring.entry) (I.text after.old) (lines_left breaks.old) }
+    ensures held { IsHeldPiece (measure_of measuring.entry) (I.text after.old) result (lines_left breaks.new) }
     ensures after { I.text after.new ≡ rest_held (I.text after.old) result }
 {
-    let found = breaks.next_break()?;
+    let found = next_break(breaks)?;
     let extent = measuring.extent_of(after.up_to(found.end));
     after.seek(found.end);
     Some(Piece {
@@ -166,22 +173,22 @@ pub(crate) fn next_piece<I: Cursor, B: Breaks>(
 
 /// The line that begins with this piece of a text, and the piece after it. The cursor goes over both. The text itself, `rest`, is
 /// what the contract speaks of.
-fn next_line<I: Cursor, B: Breaks>(
-    breaks: &mut B,
+fn next_line<I: Cursor>(
+    breaks: &mut LineBreakIterator<'_, I>,
     after: &mut I,
     rest: &I,
     first: Piece,
     setting: Setting<'_>,
 ) -> (Piece, Option<Piece>)
     requires piece { IsFirstSegment (measure_of setting.measuring) (I.text rest.now) first }
-    requires cuts { AreCuts (rest_from first.end (I.text rest.now)) (B.left breaks.old) }
+    requires cuts { AreCuts (rest_from first.end (I.text rest.now)) (lines_left breaks.old) }
     requires at { I.text after.old ≡ rest_from first.end (I.text rest.now) }
     ensures lines { let measure = measure_of setting.entry.measuring in
         let limit = setting.entry.columns in
-        lines_from limit (segment_at measure (I.text rest.now) first) (segments_from measure (rest_from first.end (I.text rest.now)) (B.left breaks.old))
-        ≡ line_at (I.text rest.now) result.0 ∷ lines_held measure limit (rest_from result.0.end (I.text rest.now)) result.1 (B.left breaks.new) }
+        lines_from limit (segment_at measure (I.text rest.now) first) (segments_from measure (rest_from first.end (I.text rest.now)) (lines_left breaks.old))
+        ≡ line_at (I.text rest.now) result.0 ∷ lines_held measure limit (rest_from result.0.end (I.text rest.now)) result.1 (lines_left breaks.new) }
     ensures piece { (cells : List Cell) × IsFirstPiece (I.text rest.now) cells result.0 }
-    ensures held { IsHeldPiece (measure_of setting.entry.measuring) (rest_from result.0.end (I.text rest.now)) result.1 (B.left breaks.new) }
+    ensures held { IsHeldPiece (measure_of setting.entry.measuring) (rest_from result.0.end (I.text rest.now)) result.1 (lines_left breaks.new) }
     ensures after { I.text after.new ≡ rest_held (rest_from result.0.end (I.text rest.now)) result.1 }
 {
     let mut line = first;

@@ -1,5 +1,5 @@
 use Rattle.yengatomu_segmenter.specs.Finders.{find_by, finder_of}
-use Rattle.yengatomu_segmenter.proofs.GoingOn.{behind-utf8}
+use Rattle.seg_text.proofs.GoingOn.{behind-utf8}
 use Rattle.yengatomu_c.proofs.yengatomu_boundaries.Goals as goal
 
 pub returns-in-Ok-clause-whole : goal.returns-in-Ok-clause-whole

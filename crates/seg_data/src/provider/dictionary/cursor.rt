@@ -8,7 +8,7 @@ use crate::words::WordCursor;
 
 /// A place in the words of a dictionary: the node that the code points lead to that were read, or
 /// none where no word begins with them. It is as cheap to copy as a reference and a number.
-#[derive(Clone, Copy, Debug)]
+#[derive(Clone, Copy)]
 pub struct DictionaryCursor<'data> {
     data: &'data DictionaryBreakData,
     node: Option<usize>,

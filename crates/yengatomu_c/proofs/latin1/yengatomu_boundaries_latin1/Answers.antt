@@ -1,5 +1,5 @@
 use Rattle.yengatomu_segmenter.specs.Finders.{find_by, finder_of}
-use Rattle.yengatomu_segmenter.proofs.GoingOn.{behind-latin1}
+use Rattle.seg_text.proofs.GoingOn.{behind-latin1}
 use Rattle.yengatomu_c.proofs.latin1.yengatomu_boundaries_latin1.Goals as goal
 
 pub returns-in-Ok-clause-whole : goal.returns-in-Ok-clause-whole

@@ -1,5 +1,5 @@
 use Rattle.yengatomu_segmenter.specs.Finders.{find_by, finder_of}
-use Rattle.yengatomu_segmenter.proofs.GoingOn.{behind-utf16}
+use Rattle.seg_text.proofs.GoingOn.{behind-utf16}
 use Rattle.yengatomu_c.proofs.utf16.yengatomu_boundaries_utf16.Goals as goal
 
 pub returns-in-Ok-clause-whole : goal.returns-in-Ok-clause-whole

@@ -1,4 +1,4 @@
-use Rattle.std.proofs.Common.{ℕ, List, ap, subst, ◌∙◌}
+use Rattle.std.proofs.Common.{ℕ, List, ap, subst}
 use Rattle.icu_segmenter.specs.Boundary.{Boundary}
 use Rattle.icu_segmenter.specs.LineBreaks.{LineRules, line_boundaries_by}
 use Rattle.icu_segmenter.specs.NearBoundaries.{IsNearestBelow, places_of_units}
@@ -10,38 +10,38 @@ pub returns-in-Clusters : goal.returns-in-Clusters
 returns-in-Clusters g c =
     record {
       nearest = rw c.in-Clusters.is
-          (subst (λ (places : List ℕ). IsNearestBelow places c.args.place c.previous_boundary.result)
-          (c.over.ensures ∙ ap (λ (rules : Rules). places_of_units g.T.Source.Source.decode (boundaries_by rules) (g.T.Units.units c.args.text)) c.as_borrowed-held.ensures) c.previous_boundary.ensures);
+          (subst (λ (places : List ℕ). IsNearestBelow places c.args.place c.previous_by.result)
+          (ap (λ (rules : Rules). places_of_units g.T.Source.Source.decode (boundaries_by rules) (g.T.Units.units c.args.text)) c.as_borrowed-held.ensures) c.previous_by.ensures);
     }
 
 pub returns-in-Words : goal.returns-in-Words
 returns-in-Words g c =
     record {
       nearest = rw c.in-Words.is
-          (subst (λ (places : List ℕ). IsNearestBelow places c.args.place c.previous_boundary-in-Words.result)
-          (c.over-in-Words.ensures ∙ ap (λ (rules : WordRules). places_of_units g.T.Source.Source.decode (word_boundaries_by rules) (g.T.Units.units c.args.text)) c.as_borrowed-held-in-Words.ensures) c.previous_boundary-in-Words.ensures);
+          (subst (λ (places : List ℕ). IsNearestBelow places c.args.place c.previous_by-in-Words.result)
+          (ap (λ (rules : WordRules). places_of_units g.T.Source.Source.decode (word_boundaries_by rules) (g.T.Units.units c.args.text)) c.as_borrowed-held-in-Words.ensures) c.previous_by-in-Words.ensures);
     }
 
 pub returns-in-Lines : goal.returns-in-Lines
 returns-in-Lines g c =
     record {
       nearest = rw c.in-Lines.is
-          (subst (λ (places : List ℕ). IsNearestBelow places c.args.place c.previous_boundary-in-Lines.result)
-          (c.over-in-Lines.ensures ∙ ap (λ (rules : LineRules). places_of_units g.T.Source.Source.decode (line_boundaries_by rules) (g.T.Units.units c.args.text)) c.as_borrowed-held-in-Lines.ensures) c.previous_boundary-in-Lines.ensures);
+          (subst (λ (places : List ℕ). IsNearestBelow places c.args.place c.previous_by-in-Lines.result)
+          (ap (λ (rules : LineRules). places_of_units g.T.Source.Source.decode (line_boundaries_by rules) (g.T.Units.units c.args.text)) c.as_borrowed-held-in-Lines.ensures) c.previous_by-in-Lines.ensures);
     }
 
 pub returns-in-None : goal.returns-in-None
 returns-in-None g c =
     record {
       nearest = rw (c.in-Sentences.is, ← c.in-None.ensures.value)
-          (subst (λ (places : List ℕ). IsNearestBelow places c.args.place c.previous_boundary-in-None.result)
-          (c.over-in-None.ensures ∙ ap (λ (rules : Rules). places_of_units g.T.Source.Source.decode (boundaries_by rules) (g.T.Units.units c.args.text)) c.as_borrowed-held-in-None.ensures) c.previous_boundary-in-None.ensures);
+          (subst (λ (places : List ℕ). IsNearestBelow places c.args.place c.previous_by-in-None.result)
+          (ap (λ (rules : Rules). places_of_units g.T.Source.Source.decode (boundaries_by rules) (g.T.Units.units c.args.text)) c.as_borrowed-held-in-None.ensures) c.previous_by-in-None.ensures);
     }
 
 pub returns-in-Some : goal.returns-in-Some
 returns-in-Some g c =
     record {
       nearest = rw (c.in-Sentences.is, ← c.in-Some.ensures.value)
-          (subst (λ (places : List ℕ). IsNearestBelow places c.args.place c.previous_boundary-in-Some.result)
-          (c.over-in-Some.ensures ∙ ap (λ (find : List ℕ → List Boundary). places_of_units g.T.Source.Source.decode find (g.T.Units.units c.args.text)) c.suppressing-held.ensures) c.previous_boundary-in-Some.ensures);
+          (subst (λ (places : List ℕ). IsNearestBelow places c.args.place c.previous_by-in-Some.result)
+          (ap (λ (find : List ℕ → List Boundary). places_of_units g.T.Source.Source.decode find (g.T.Units.units c.args.text)) c.suppressing-held.ensures) c.previous_by-in-Some.ensures);
     }

@@ -1,8 +1,8 @@
-use Rattle.std.proofs.Common.{◌≤◌, length}
+use Rattle.std.proofs.Common.{◌≤◌}
 use Rattle.seg_segments.proofs.cursor.line_starts.line_start.Given as goal
 
 abbrev pub invariant-loop-start : goal.invariant-loop-start
-invariant-loop-start g l = record { order : l.start ≤ l.place; within : l.start ≤ length (g.T.Units.units l.text) }
+invariant-loop-start g l = l.start ≤ l.place
 
 abbrev pub decreases-loop-start : goal.decreases-loop-start
 decreases-loop-start g l = l.start

@@ -1,3 +1,4 @@
+use Rattle.seg_lines.specs.Lines.{lines_left}
 use Rattle.seg_wrap.specs.Walk.{measure_of}
 use Rattle.seg_wrap.proofs.Hints.{held-few, held-some, held-within}
 use Rattle.seg_wrap.proofs.wrap.wrapping.Wrapping.size_hint.Goals as goal
@@ -9,7 +10,7 @@ overflow_sub-result g c =
 pub returns-in-Some-clause-lower : goal.returns-in-Some-clause-lower
 returns-in-Some-clause-lower g c =
     let s = c.self.inside in
-    rw (← c.self.view_is) (held-some (measure_of s.setting.measuring) s.setting.columns (g.I.Cursor.text s.rest) _ _ (g.B.Breaks.left s.breaks) c.in-Some.is)
+    rw (← c.self.view_is) (held-some (measure_of s.setting.measuring) s.setting.columns (g.I.Cursor.text s.rest) _ _ (lines_left s.breaks) c.in-Some.is)
 
 pub returns-in-Some-clause-upper : goal.returns-in-Some-clause-upper
 returns-in-Some-clause-upper g c =
