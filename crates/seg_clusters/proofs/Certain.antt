@@ -136,36 +136,40 @@ goes-on m state symbol goes =
           (next, leads, subst (λ (found : Option ℕ). MatchOption found ⊥ (λ next. IsSome (acceptance_status (state_at m next)))) leads goes.0)
     ]
 
--- no segment ends between two symbols where none may
-never-ends : (m : Machine) → IsChecked m → (one other : ℕ) → NeverBreaks m one other → (earlier rest : List ℕ) (count : ℕ) → suc (length earlier) < count
-    → (states : List ℕ) → states ≡ run m 0 (symbols_of m earlier ++ one ∷ other ∷ rest) → (n status : ℕ) → IsPick (entries m states) count n status → n ≡ suc (length earlier) → ⊥
-never-ends m checked one other never earlier rest count more states is n status (inl (i, j, lookahead, held, ends)) at =
-    let index : j ≡ length earlier = omega (arith, ends, at, more) in
-    let names = held.names in
-    let inside = slice_get_within (entries m states) j _ names.here in
-    let long : length (entries m states) ≡ length states = length-map states (state_at m) in
-    let found = enters-both m checked one other earlier rest 0 checked.some_state (let l = ap length is in omega (arith, inside, long, index, l)) in
-    let goes = if-some (step m found.from one) (λ (next : ℕ). GoesOnBy m next other) found.next (never found.from found.within) found.leads in
-    let entry : slice_get (entries m states) j ≡ Some (state_at m found.next) =
-    slice_get-map (state_at m) states j ∙ ap (option_map (state_at m)) (ap₂ slice_get is index ∙ found.here) in
-    let named : (state_at m found.next).1 ≡ Some lookahead = ap (λ (found : Option (Acceptance × Option ℕ)). option_map_or (λ (entry : Acceptance × Option ℕ). entry.1) found None) (sym entry ∙ names.here) in
-    none-some lookahead (sym goes.1 ∙ named)
-  where
-    none-some : (x : ℕ) → None ≡ Some x → ⊥
-    none-some x is = cc
-never-ends m checked one other never earlier rest count more states is n status (inr (none, (i, last, ends))) at =
-    let index : i ≡ length earlier = omega (arith, ends, at, more) in
-    let accepts = last.accepts in
-    let inside = slice_get_within (entries m states) i _ accepts.here in
-    let long : length (entries m states) ≡ length states = length-map states (state_at m) in
-    let found = enters-both m checked one other earlier rest 0 checked.some_state (let l = ap length is in omega (arith, inside, long, index, l)) in
-    let goes = if-some (step m found.from one) (λ (next : ℕ). GoesOnBy m next other) found.next (never found.from found.within) found.leads in
-    let (next, leads, some) = goes-on m found.next other goes in
-    let (status, name, entry) = accepted (state_at m next) some in
-    let there : slice_get (entries m states) (suc (length earlier)) ≡ Some (Accept status, name) =
-    slice_get-map (state_at m) states (suc (length earlier)) ∙ ap (option_map (state_at m)) (ap (λ (states : List ℕ). slice_get states (suc (length earlier))) is ∙ found.later next leads)
-    ∙ ap Some entry in
-    last.last (suc (length earlier)) status (omega (arith, index)) (record { name = name; here = there })
+-- the state that a scan enters by the one symbol, where it enters as many, and how it goes on from there
+module _ (m : Machine) (checked : IsChecked m) (one other : ℕ) (never : NeverBreaks m one other) (earlier rest states : List ℕ)
+    (is : states ≡ run m 0 (symbols_of m earlier ++ one ∷ other ∷ rest)) where
+  entered : (i : ℕ) → i ≡ length earlier → i < length (entries m states)
+      → (found : EntersBoth m (run m 0 (symbols_of m earlier ++ one ∷ other ∷ rest)) one other (length earlier)) × GoesOnBy m found.next other
+  entered i index inside =
+      let long : length (entries m states) ≡ length states = length-map states (state_at m) in
+      let found = enters-both m checked one other earlier rest 0 checked.some_state (let l = ap length is in omega (arith, inside, long, index, l)) in
+      (found, if-some (step m found.from one) (λ (next : ℕ). GoesOnBy m next other) found.next (never found.from found.within) found.leads)
+
+  entry-at : (n state : ℕ) → slice_get (run m 0 (symbols_of m earlier ++ one ∷ other ∷ rest)) n ≡ Some state → slice_get (entries m states) n ≡ Some (state_at m state)
+  entry-at n state at = slice_get-map (state_at m) states n ∙ ap (option_map (state_at m)) (ap (λ (states : List ℕ). slice_get states n) is ∙ at)
+
+  -- no segment ends between two symbols where none may
+  never-ends : (count : ℕ) → suc (length earlier) < count → (n status : ℕ) → IsPick (entries m states) count n status → n ≡ suc (length earlier) → ⊥
+  never-ends count more n status (inl (i, j, lookahead, held, ends)) at =
+      let index : j ≡ length earlier = omega (arith, ends, at, more) in
+      let names = held.names in
+      let (found, goes) = entered j index (slice_get_within (entries m states) j _ names.here) in
+      let entry : slice_get (entries m states) j ≡ Some (state_at m found.next) = ap (slice_get (entries m states)) index ∙ entry-at (length earlier) found.next found.here in
+      let named : (state_at m found.next).1 ≡ Some lookahead = ap (λ (found : Option (Acceptance × Option ℕ)). option_map_or (λ (entry : Acceptance × Option ℕ). entry.1) found None) (sym entry ∙ names.here) in
+      none-some lookahead (sym goes.1 ∙ named)
+    where
+      none-some : (x : ℕ) → None ≡ Some x → ⊥
+      none-some x is = cc
+  never-ends count more n status (inr (none, (i, last, ends))) at =
+      let index : i ≡ length earlier = omega (arith, ends, at, more) in
+      let accepts = last.accepts in
+      let (found, goes) = entered i index (slice_get_within (entries m states) i _ accepts.here) in
+      let (next, leads, some) = goes-on m found.next other goes in
+      let (status, name, entry) = accepted (state_at m next) some in
+      let there : slice_get (entries m states) (suc (length earlier)) ≡ Some (Accept status, name) =
+      entry-at (suc (length earlier)) next (found.later next leads) ∙ ap Some entry in
+      last.last (suc (length earlier)) status (omega (arith, index)) (record { name = name; here = there })
 
 module _ (m : Machine) (checked : IsChecked m) (before one other : ℕ)
     (certain : IsCertain m (symbol_and_script m before).0 (symbol_and_script m one).0 (symbol_and_script m other).0) where
@@ -175,14 +179,17 @@ module _ (m : Machine) (checked : IsChecked m) (before one other : ℕ)
   abbrev ends : List ℕ
   ends = replicate (length m.states) 0
 
+  parts : (earlier later : List ℕ) → symbols_of m (earlier ++ before ∷ one ∷ other ∷ later) ++ ends
+      ≡ symbols_of m earlier ++ symbol before ∷ symbol one ∷ symbol other ∷ (symbols_of m later ++ ends)
+  parts earlier later =
+      ap (λ (symbols : List ℕ). symbols ++ ends) (map-append symbol earlier (before ∷ one ∷ other ∷ later))
+      ∙ append_assoc (symbols_of m earlier) (symbol before ∷ symbol one ∷ symbol other ∷ symbols_of m later) ends
+
   -- no segment ends behind the place
   pick-short : (earlier later : List ℕ) (p : Boundary) → pick m (symbols_of m (earlier ++ before ∷ one ∷ other ∷ later)) ≡ Some p → p.offset ≤ length earlier + 2
   unfolding scan
   pick-short earlier later p is =
-      let parts : symbols_of m (earlier ++ before ∷ one ∷ other ∷ later) ++ ends ≡ symbols_of m earlier ++ symbol before ∷ symbol one ∷ symbol other ∷ (symbols_of m later ++ ends) =
-      ap (λ (symbols : List ℕ). symbols ++ ends) (map-append symbol earlier (before ∷ one ∷ other ∷ later))
-      ∙ append_assoc (symbols_of m earlier) (symbol before ∷ symbol one ∷ symbol other ∷ symbols_of m later) ends in
-      let same = ap (λ (symbols : List ℕ). length (run m 0 symbols)) parts in
+      let same = ap (λ (symbols : List ℕ). length (run m 0 symbols)) (parts earlier later) in
       let short = run-short m checked (symbol before) (symbol one) (symbol other) certain earlier (symbols_of m later ++ ends) 0 checked.some_state in
       let within = pick-within m _ p is in
       omega (arith, within, same, short)
@@ -192,13 +199,10 @@ module _ (m : Machine) (checked : IsChecked m) (before one other : ℕ)
       → p.offset ≡ suc (length earlier) → ⊥
   unfolding scan
   pick-between never earlier later p is =
-      let parts : symbols_of m (earlier ++ before ∷ one ∷ other ∷ later) ++ ends ≡ symbols_of m earlier ++ symbol before ∷ symbol one ∷ symbol other ∷ (symbols_of m later ++ ends) =
-      ap (λ (symbols : List ℕ). symbols ++ ends) (map-append symbol earlier (before ∷ one ∷ other ∷ later))
-      ∙ append_assoc (symbols_of m earlier) (symbol before ∷ symbol one ∷ symbol other ∷ symbols_of m later) ends in
       let count : length (symbols_of m (earlier ++ before ∷ one ∷ other ∷ later)) ≡ length (earlier ++ before ∷ one ∷ other ∷ later) = length-map (earlier ++ before ∷ one ∷ other ∷ later) symbol in
       let whole : length (earlier ++ before ∷ one ∷ other ∷ later) ≡ length earlier + suc (suc (suc (length later))) = length-append earlier (before ∷ one ∷ other ∷ later) in
-      never-ends m checked (symbol before) (symbol one) never earlier (symbol other ∷ (symbols_of m later ++ ends)) _ (omega (arith, count, whole))
-      (scan m (symbols_of m (earlier ++ before ∷ one ∷ other ∷ later))) (ap (λ (symbols : List ℕ). run m 0 symbols) parts) p.offset p.status ((pick-words m _ p.offset p.status).0 is)
+      never-ends m checked (symbol before) (symbol one) never earlier (symbol other ∷ (symbols_of m later ++ ends)) (scan m (symbols_of m (earlier ++ before ∷ one ∷ other ∷ later)))
+      (ap (λ (symbols : List ℕ). run m 0 symbols) (parts earlier later)) _ (omega (arith, count, whole)) p.offset p.status ((pick-words m _ p.offset p.status).0 is)
 
   pick-anew : StopsBetween m 0 (symbol one) (symbol other) → (later : List ℕ) (p : Boundary) → pick m (symbols_of m (one ∷ other ∷ later)) ≡ Some p → p.offset ≤ 1
   unfolding scan

@@ -21,7 +21,7 @@ abbrev pub GoesOnBy : Machine → ℕ → ℕ → Type 0
 GoesOnBy m state symbol =
     MatchOption (step m state symbol) ⊥ (λ next. IsSome (acceptance_status (state_at m next))) × ((state_at m state).1 ≡ None)
 
--- so each scan does between two symbols: no segment ends there
+-- between two symbols no segment ends: each scan that read the one goes on by the other
 abbrev pub NeverBreaks : Machine → ℕ → ℕ → Type 0
 NeverBreaks m one other = (state : ℕ) → state < length m.states → IfSome (step m state one) (λ next. GoesOnBy m next other)
 
@@ -31,13 +31,13 @@ IsCertain m before one other =
     ((state : ℕ) → state < length m.states → IfSome (step m state before) (λ next. StopsBetween m next one other))
     × (StopsBetween m 0 one other ⊎ NeverBreaks m before one)
 
--- a machine finds them: of a pair table no place is known to be certain
-abbrev pub IsByMachine : Rules → Type 0
-IsByMachine (ByTable t overriding) = ⊥
-IsByMachine (ByMachine m) = ⊤
-
--- so it is of code points with such symbols
+-- code points with such symbols; of a pair table none are known
 abbrev pub AreCertain : Rules → ℕ → ℕ → ℕ → Type 0
 AreCertain (ByTable t overriding) before one other = ⊥
 AreCertain (ByMachine m) before one other =
     IsCertain m (symbol_and_script m before).0 (symbol_and_script m one).0 (symbol_and_script m other).0
+
+-- places may be certain: a machine finds the boundaries
+abbrev pub IsByMachine : Rules → Type 0
+IsByMachine (ByTable t overriding) = ⊥
+IsByMachine (ByMachine m) = ⊤

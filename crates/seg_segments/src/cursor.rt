@@ -199,7 +199,7 @@ impl<T: CursorText, S: SegmenterOf<T::Source>> BoundaryCursor<T, S> {
     }
 }
 
-/// The part of a text from a place on that it may be cut at, at or before another place: where it begins, and its units.
+/// The part of a text that a search for the boundaries near a place reads: where it begins, and its units.
 fn part_at<T: CursorText, S: SegmenterOf<T::Source>>(
     segmenter: &S,
     text: T,

@@ -125,6 +125,7 @@ pub fn next<T: CursorText>(segmenter: &Segmenter, text: T, place: usize) -> Opti
     by_kind!(segmenter, held => next_by(held, text, place))
 }
 
+// The nearest above it by any kind of segmenter.
 fn next_by<T: CursorText, S: SegmenterOf<T::Source>>(
     segmenter: S,
     text: T,
@@ -142,6 +143,7 @@ pub fn previous<T: CursorText>(segmenter: &Segmenter, text: T, place: usize) -> 
     by_kind!(segmenter, held => previous_by(held, text, place))
 }
 
+// The nearest below it by any kind of segmenter.
 fn previous_by<T: CursorText, S: SegmenterOf<T::Source>>(
     segmenter: S,
     text: T,
