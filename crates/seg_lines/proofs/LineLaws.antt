@@ -1,7 +1,7 @@
 -- Laws of the boundaries of lines.
 use Rattle.std.proofs.Common.{◌≡◌, ℕ, ◌+◌, List, ◌∷◌, ◌++◌, Contains, drop, length, refl, sym, ap, ◌∙◌, subst}
 use Rattle.seg_text.specs.declared.boundary.Boundary.{Boundary}
-use Rattle.seg_text.specs.Boundaries.{HasRestart, RestartsIn, offsets, Cuts, with_status, HasOneAnswer, later_boundaries}
+use Rattle.seg_text.specs.Boundaries.{RestartsIn, offsets, Cuts, with_status, HasOneAnswer, later_boundaries}
 use Rattle.seg_text.proofs.Restarts.{restarts, restarts-as}
 use Rattle.seg_text.proofs.Stretches.{later-are, later-only, one-answer}
 use Rattle.seg_data.specs.ScriptWords.{ScriptWords, AreSameWords, no_words}
@@ -131,27 +131,25 @@ always-break rules m is before one other checked =
     subst (λ (finder : LineFinder). LinesAreCertainWith finder rules.payloads before one other → AlwaysBreaks (boundaries_with finder rules.payloads) before one other) (sym is)
     (lines-break m rules.payloads checked before one other)
 
-pub always-restart : (rules : LineRules) (m : AnyMachine) → rules.finder ≡ ByMachine m → HasCertainLines rules → HasRestart (line_boundaries_by rules)
-always-restart rules m is =
-    subst (λ (finder : LineFinder). HasCertainLinesWith finder rules.payloads → HasRestart (boundaries_with finder rules.payloads)) (sym is)
-    (λ none code_points. restarts-with (ByMachine m) rules.payloads code_points none)
-
 -- what isn't a machine of lines has none
-module _ (payloads : Payloads) where
-  pub none-certain : (finder : Finder) → ((machine : TailoredMachineBorrowed) → finder ≡ Machine machine → ⊥) → (before one other : ℕ)
-      → LinesAreCertainWith (finder_of finder) payloads before one other → ⊥
-  none-certain Clusters none before one other certain = certain
-  none-certain Places none before one other certain = certain
-  none-certain (Table pairs) none before one other certain = certain
-  none-certain (Turns pairs) none before one other certain = certain
-  none-certain (Machine machine) none before one other certain = none machine refl
+pub none-certain : (payloads : Payloads) (finder : Finder) → ((machine : TailoredMachineBorrowed) → finder ≡ Machine machine → ⊥) → (before one other : ℕ)
+    → LinesAreCertainWith (finder_of finder) payloads before one other → ⊥
+none-certain payloads Clusters none before one other certain = certain
+none-certain payloads Places none before one other certain = certain
+none-certain payloads (Table pairs) none before one other certain = certain
+none-certain payloads (Turns pairs) none before one other certain = certain
+none-certain payloads (Machine machine) none before one other certain = none machine refl
 
-  pub none-restarts : (finder : Finder) → ((machine : TailoredMachineBorrowed) → finder ≡ Machine machine → ⊥) → HasCertainLinesWith (finder_of finder) payloads → ⊥
-  none-restarts Clusters none certain = certain
-  none-restarts Places none certain = certain
-  none-restarts (Table pairs) none certain = certain
-  none-restarts (Turns pairs) none certain = certain
-  none-restarts (Machine machine) none certain = none machine refl
+may-restart-with : (finder : LineFinder) (payloads : Payloads) → HasCertainLinesWith finder payloads → (code_points : List ℕ) → MayRestart finder payloads.words code_points
+may-restart-with ByClusters payloads certain code_points = absurd certain
+may-restart-with ByPlaces payloads certain code_points = absurd certain
+may-restart-with (ByTable rules) payloads certain code_points = absurd certain
+may-restart-with (ByTurns rules) payloads certain code_points = absurd certain
+may-restart-with (ByMachine m) payloads certain code_points = certain
+
+-- where places may be certain, texts restart
+pub may-restart : (rules : LineRules) → HasCertainLines rules → (code_points : List ℕ) → MayRestart rules.finder rules.payloads.words code_points
+may-restart rules = may-restart-with rules.finder rules.payloads
 
 -- the words of each script are a set
 

@@ -1,7 +1,7 @@
 //! Laws of the boundaries of lines. A break is mandatory where its status is 1, so what is said of statuses is said of marks.
 
 ghost use Rattle.std.specs.Prelude.{◌≡◌, ℕ, List};
-ghost use Rattle.seg_text.specs.Boundaries.{AreSameCounted, HasRestart, RestartsIn};
+ghost use Rattle.seg_text.specs.Boundaries.{AreSameCounted, RestartsIn};
 ghost use Rattle.seg_text.specs.Decoding.{utf8, utf16};
 ghost use Rattle.seg_text.specs.Items.{code_points};
 ghost use Rattle.seg_data.specs.ScriptWords.{ScriptWords, AreSameWords};
@@ -15,7 +15,7 @@ ghost use Rattle.seg_line_rules.specs.LineUnits.{counted_units, units_of};
 ghost use Rattle.seg_line_turns.specs.PlainTexts.{ArePlain, HasNoOpening};
 ghost use Rattle.seg_line_turns.specs.TurnBoundaries.{StartsBear};
 ghost use Rattle.seg_lines.specs.LineBreaks.LineFinder.{ByTable, ByTurns};
-ghost use Rattle.seg_lines.specs.LineBreaks.{HasOneList, LineRules, MayRestart, line_boundaries_by, line_boundaries_of, lines_with_words, HasCertainLines, LinesAreCertain, LinesResetAfter, HasNoMandatoryBreak, IsByPairTable};
+ghost use Rattle.seg_lines.specs.LineBreaks.{HasOneList, LineRules, MayRestart, line_boundaries_by, line_boundaries_of, lines_with_words, LinesAreCertain, LinesResetAfter, HasNoMandatoryBreak, IsByPairTable};
 ghost use Rattle.seg_lines.specs.Lines.{line_rules, lines_left};
 
 use crate::finder::Finder;
@@ -89,11 +89,10 @@ pub fn parts_behind_resets(segmenter: LineSegmenterBorrowed<'_>, code_point: cha
 }
 
 /// Law: each list that has three code points one after another, of which `always_breaks` says so, has a boundary between the last two,
-/// whatever stands before and behind them. Where `has_certain_places`, what stands behind a boundary has the boundaries that it has alone.
+/// whatever stands before and behind them. Where `has_certain_places`, what stands behind it has the boundaries that it has alone (`restart`).
 pub fn certain_places(segmenter: LineSegmenterBorrowed<'_>, before: u32, one: u32, other: u32)
-    ensures breaks { LinesAreCertain (line_rules segmenter.entry) before one other
+    ensures { LinesAreCertain (line_rules segmenter.entry) before one other
         → AlwaysBreaks (line_boundaries_by (line_rules segmenter.entry)) before one other }
-    ensures restart { HasCertainLines (line_rules segmenter.entry) → HasRestart (line_boundaries_by (line_rules segmenter.entry)) }
 {
     let _ = (before, one, other);
     if let Finder::Machine(machine) = segmenter.finder {

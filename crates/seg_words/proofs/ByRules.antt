@@ -2,7 +2,7 @@
 use Rattle.std.proofs.Common.{◌≡◌, ℕ, ◌+◌, List, ◌∷◌, ◌++◌, Contains, drop, length, refl, sym, subst, ap, ◌∙◌}
 use Rattle.std.specs.Prelude.{Option}
 use Rattle.seg_text.specs.declared.boundary.Boundary.{Boundary}
-use Rattle.seg_text.specs.Boundaries.{HasRestart, RestartsIn, offsets, start, Stretch, HasOneAnswer, HasProgress, list_boundaries, Cuts}
+use Rattle.seg_text.specs.Boundaries.{RestartsIn, offsets, start, Stretch, HasOneAnswer, HasProgress, list_boundaries, Cuts}
 use Rattle.seg_text.proofs.Restarts.{restarts, restarts-as}
 use Rattle.seg_text.proofs.Stretches.{one-answer}
 use Rattle.seg_data.specs.Table.{Table}
@@ -14,7 +14,7 @@ use Rattle.seg_pairs.specs.PairTable.{PairTable}
 use Rattle.seg_pairs.specs.Breaks.{table_stretch, HasComplexElement, complex_stretch}
 use Rattle.seg_pairs.proofs.ComplexStretches.{complex-going, none-after, without-complex}
 use Rattle.seg_pairs.proofs.Engine.{table-going, table-alone}
-use Rattle.seg_clusters.specs.Certain.{AlwaysBreaks, AreCertain}
+use Rattle.seg_clusters.specs.Certain.{AlwaysBreaks, AreCertain, IsByMachine}
 use Rattle.seg_clusters.specs.Rules.{Rules}
 use Rattle.seg_clusters.specs.Rules.Rules.{ByTable, ByMachine}
 use Rattle.seg_data.specs.ScriptWords.{ScriptWords, AreSameWords, no_words}
@@ -76,6 +76,10 @@ pub words-break : (words : WordRules) (m : Machine) → words.rules ≡ ByMachin
     → WordsAreCertain words before one other → AlwaysBreaks (word_boundaries_by words) before one other
 words-break words m is checked before one other certain = breaks words m is certain.1 checked before one other certain.0
 
-pub words-restart : (words : WordRules) (m : Machine) → words.rules ≡ ByMachine m → HasCertainWords words → HasRestart (word_boundaries_by words)
-words-restart words m is certain code_points =
-    restarts-by words code_points (subst (λ (rules : Rules). HasNoRunOfWords rules words.payloads.words code_points) (sym is) certain.1)
+no-run-by : (rules : Rules) (words : ScriptWords) → IsByMachine rules → words ≡ no_words → (code_points : List ℕ) → HasNoRunOfWords rules words code_points
+no-run-by (ByTable t overriding) words by none code_points = absurd by
+no-run-by (ByMachine m) words by none code_points = none
+
+-- where places may be certain, no script has words
+pub no-run : (words : WordRules) → HasCertainWords words → (code_points : List ℕ) → HasNoRunOfWords words.rules words.payloads.words code_points
+no-run words certain code_points = no-run-by words.rules words.payloads.words certain.0 certain.1 code_points

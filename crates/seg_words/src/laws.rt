@@ -2,13 +2,13 @@
 //! said of types.
 
 ghost use Rattle.std.specs.Prelude.{◌≡◌, ℕ, List, [], ◌∷◌};
-ghost use Rattle.seg_text.specs.Boundaries.{AreSameCounted, HasRestart, RestartsIn, HasOneAnswer};
+ghost use Rattle.seg_text.specs.Boundaries.{AreSameCounted, RestartsIn, HasOneAnswer};
 ghost use Rattle.seg_text.specs.Decoding.{utf8, utf16};
 ghost use Rattle.seg_text.specs.Items.{code_points};
 ghost use Rattle.seg_data.specs.ScriptWords.{ScriptWords, AreSameWords};
 ghost use Rattle.seg_clusters.specs.Certain.{AlwaysBreaks};
 ghost use Rattle.seg_clusters.specs.Rules.{PartsTexts};
-ghost use Rattle.seg_words.specs.WordRules.{HasCertainWords, WordsAreCertain, WordsResetAfter, HasNoRunOfWords, WordRules, first_word_stretch, with_words, word_boundaries_by, word_boundaries_of};
+ghost use Rattle.seg_words.specs.WordRules.{WordsAreCertain, WordsResetAfter, HasNoRunOfWords, WordRules, first_word_stretch, with_words, word_boundaries_by, word_boundaries_of};
 ghost use Rattle.seg_words.specs.Words.{word_rules, words_left};
 
 use crate::word::{WordBreakIterator, WordSegmenterBorrowed, WordType};
@@ -73,11 +73,10 @@ pub fn parts_behind_resets(segmenter: WordSegmenterBorrowed<'_>, code_point: cha
 }
 
 /// Law: each list that has three code points one after another, of which `always_breaks` says so, has a boundary between the last two,
-/// whatever stands before and behind them. Where `has_certain_places`, what stands behind a boundary has the boundaries that it has alone.
+/// whatever stands before and behind them. Where `has_certain_places`, what stands behind it has the boundaries that it has alone (`restart`).
 pub fn certain_places(segmenter: WordSegmenterBorrowed<'_>, before: u32, one: u32, other: u32)
-    ensures breaks { WordsAreCertain (word_rules segmenter.entry) before one other
+    ensures { WordsAreCertain (word_rules segmenter.entry) before one other
         → AlwaysBreaks (word_boundaries_by (word_rules segmenter.entry)) before one other }
-    ensures restart { HasCertainWords (word_rules segmenter.entry) → HasRestart (word_boundaries_by (word_rules segmenter.entry)) }
 {
     let _ = (before, one, other);
     if let Engine::Neo(machine) = segmenter.engine {

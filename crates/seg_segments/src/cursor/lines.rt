@@ -5,7 +5,7 @@ ghost use Rattle.seg_lines.specs.Lines.{line_rules};
 
 use crate::cursor::{Segmenter, SegmenterOf};
 use crate::segments::Source;
-use seg_lines::laws::{certain_places, parts_behind_resets};
+use seg_lines::laws::{certain_places, parts_behind_resets, restart};
 use seg_lines::line::{LineBreakIterator, LineSegmenterBorrowed};
 
 impl<'data> Segmenter for LineSegmenterBorrowed<'data> {
@@ -17,7 +17,7 @@ impl<'data> Segmenter for LineSegmenterBorrowed<'data> {
     }
 
     fn has_certain_places(&self) -> bool {
-        certain_places(*self, 0, 0, 0);
+        restart(*self);
         (*self).has_certain_places()
     }
 
