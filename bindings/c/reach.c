@@ -1,5 +1,6 @@
 /* How far a call reads: behind what it may read stands a page that can't be read. The text that is passed goes on over that page, so a call that reads
- * on to the next run, or to the end, ends the program. A call may read AHEAD bytes beyond the last boundary that it gives, and the run that it cuts. */
+ * on to the next run, or to the end, ends the program. A call may read AHEAD bytes beyond the last boundary that it gives, and the run that it cuts.
+ * A cursor's moves read what is near in both directions, though no line feed is. */
 #define _DEFAULT_SOURCE
 #include "check.h"
 #include <string.h>
@@ -7,7 +8,7 @@
 #include <unistd.h>
 #include <yengatomu.h>
 
-enum { PAGE = 4096, READABLE = 2 * PAGE, UNREADABLE = 1 << 20, ROOM = 64 };
+enum { PAGE = 4096, READABLE = 2 * PAGE, UNREADABLE = 1 << 20, ROOM = 64, WINDOW = 2 * PAGE, MOVES = 20 };
 
 /* What rules look ahead, in bytes: two characters, each with a mark. */
 enum { AHEAD = 16 };
@@ -61,6 +62,40 @@ static void try_lines(yengatomu_slot *slot, const uint8_t *text, size_t columns,
     free(widths);
 }
 
+/* Memory of which the first page and the WINDOW bytes in the middle alone can be read, filled there by a text that comes again and again. */
+static void *window_of(const void *again, size_t len) {
+    uint8_t *all = mmap(NULL, UNREADABLE + WINDOW + UNREADABLE, PROT_READ | PROT_WRITE, MAP_PRIVATE | MAP_ANONYMOUS, -1, 0);
+    if (all == MAP_FAILED) exit(2);
+    for (size_t at = 0; at < WINDOW; at++) all[UNREADABLE + at] = ((const uint8_t *)again)[at % len];
+    if (mprotect(all + PAGE, UNREADABLE - PAGE, PROT_NONE) || mprotect(all + UNREADABLE + WINDOW, UNREADABLE, PROT_NONE)) exit(2);
+    return all;
+}
+
+/* Moves a cursor from the middle of the window to later boundaries, and back. */
+static void try_moves(uint32_t kind, const char *again) {
+    const size_t size = strlen(again), len = UNREADABLE + WINDOW + UNREADABLE, middle = UNREADABLE + WINDOW / 2;
+    uint16_t *units = block(size * sizeof *units);
+    for (size_t at = 0; at < size; at++) units[at] = (uint8_t)again[at];
+    const uint8_t *text = window_of(again, size);
+    const uint16_t *wide = window_of(units, size * sizeof *units);
+    yengatomu_slot slot = {0};
+    size_t places[MOVES], units_at[MOVES];
+    CHECK(yengatomu_open(&slot, kind, 0, 0, false) == YENGATOMU_OK);
+    for (size_t i = 0; i < MOVES; i++) {
+        places[i] = yengatomu_next(&slot, text, len, i ? places[i - 1] : middle);
+        units_at[i] = yengatomu_next_utf16(&slot, wide, len / 2, i ? units_at[i - 1] : middle / 2);
+        CHECK(places[i] > middle && units_at[i] > middle / 2);
+    }
+    for (size_t i = MOVES - 1; i > 0; i--) {
+        CHECK(yengatomu_previous(&slot, text, len, places[i]) == places[i - 1]);
+        CHECK(yengatomu_previous_utf16(&slot, wide, len / 2, units_at[i]) == units_at[i - 1]);
+    }
+    yengatomu_close(&slot);
+    free(units);
+    munmap((void *)text, len);
+    munmap((void *)wide, len);
+}
+
 int main(void) {
     uint8_t *start = mmap(NULL, READABLE + UNREADABLE, PROT_READ | PROT_WRITE, MAP_PRIVATE | MAP_ANONYMOUS, -1, 0);
     static const char *const plain[] = {"ab ", "ab, 3.14 can't ", "ab \n", "\xc3\xa9 e\xcc\x81 ", "\xe6\x97\xa5\xe6\x9c\xac "};
@@ -77,6 +112,11 @@ int main(void) {
         try_boundaries(&slot, text_of(start, mixed), AHEAD + 2 * strlen(mixed));
         if (kind == YENGATOMU_LINES) try_lines(&slot, start, 20, AHEAD + 4 * strlen(mixed));
         yengatomu_close(&slot);
+    }
+    for (uint32_t kind = YENGATOMU_CLUSTERS; kind <= YENGATOMU_LINES; kind++) {
+        try_moves(kind, "Mr. Smith can't pay 3.14. He left! ");
+        /* (in which no sentence ends) */
+        if (kind != YENGATOMU_SENTENCES) try_moves(kind, "{\"a\": [1, 2.5], \"b c\": null}, ");
     }
     return failed != 0;
 }

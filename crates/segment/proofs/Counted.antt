@@ -1,5 +1,5 @@
 -- How many segments there are is written after what is printed, where they are only counted.
-use Rattle.std.proofs.Common.{◌≡◌, ℕ, Option, None, Some, List, IfErr, IfOk, IfSome, Result, Ok, Err, ◌⊎◌, inl, inr, refl, ap, ap₂, length, subst, ◌∙◌, append-nil}
+use Rattle.std.proofs.Common.{◌≡◌, ℕ, Option, None, Some, List, IfErr, IfOk, IfSome, Result, Ok, Err, ◌⊎◌, inl, inr, refl, ap, ap₂, length, subst, ◌∙◌, sym, ◌++◌, append-nil}
 use Rattle.std.proofs.KnownBytes.{Appends-trans}
 use Rattle.std.specs.Io.KnownBytes.{Appends}
 use Rattle.segment_output.specs.Fault.{IsReadFault}
@@ -8,11 +8,12 @@ use Rattle.segment_output.specs.Output.{Look, lines_at}
 use Rattle.segment_output.specs.Parts.{IsBegun, count_for, found_for, output_for, printed_behind, text_for}
 use Rattle.segment_text.specs.Preparation.{prepared}
 use Rattle.segment_output.specs.Segmenter.{segments_by}
-use Rattle.segment_output.specs.Wrapped.{wrapped_output}
+use Rattle.segment_output.specs.Balanced.{AppendsSome, IsBalancedOutput}
+use Rattle.segment_output.specs.Wrapped.{Wrapping, wrapped_output}
 use Rattle.segment_output.specs.Wrapper.{wrapping_of}
 use Rattle.segment_output.proofs.JoinedCuts.{lines-at_zero}
 use Rattle.segment_text.specs.Size.{size_of}
-use Rattle.segment.specs.Job.{count_by, numbers_of, output_of, printed_by, said_by, text_of, work_output, IsBegunBy, IsDoneBy, IsPrintingOf, IsTally}
+use Rattle.segment.specs.Job.{count_by, numbers_of, said_by, text_of, IsBegunBy, IsDoneBy, IsOutputOf, IsPrintedBy, IsPrintingOf, IsTally, IsWorkOutput}
 use Rattle.segment_output.specs.declared.fault.Fault.{Fault}
 use Rattle.segment_text.specs.declared.size.Size.{Size}
 use Rattle.segment_text.specs.declared.size.Tally.{Tally}
@@ -26,40 +27,48 @@ use Rattle.segment_output.specs.declared.segmenter.Segmenter.{Segmenter}
 use Rattle.segment_output.specs.declared.wrapper.Wrapper.{Wrapper}
 use Rattle.segment.specs.declared.job.Job.{Job}
 use Rattle.segment.specs.declared.job.Work.{Work}
-use Rattle.segment.specs.declared.job.Work.TheVariants.{Cut, Wrap}
+use Rattle.segment.specs.declared.job.Work.TheVariants.{Balance, Cut, Wrap}
 
 module _ (job : Job) (name : Option (List ℕ)) where
   counted : (bytes : List ℕ) (old mid new : Option (List ℕ)) (numbers : Numbers) (tally : Tally) → numbers_of job.work ≡ Some numbers → IsTally job bytes tally
-      → Appends old mid (printed_by job (said_by job name) bytes) → Appends mid new (count_line numbers tally.segments tally.size name) → Appends old new (output_of job name bytes)
-  counted bytes old mid new numbers tally is are printed after =
-      rw is
-      (Appends-trans old mid new (printed_by job (said_by job name) bytes) (count_line numbers (count_by job.work (text_of job bytes)) (size_of bytes) name) printed
-      (subst (λ (size : Size). Appends mid new (count_line numbers (count_by job.work (text_of job bytes)) size name)) are.1
-      (subst (λ (segments : ℕ). Appends mid new (count_line numbers segments tally.size name)) are.0 after)))
+      → AppendsSome old mid (IsPrintedBy job (said_by job name) bytes) → Appends mid new (count_line numbers tally.segments tally.size name) → AppendsSome old new (IsOutputOf job name bytes)
+  counted bytes old mid new numbers tally is are (written, printed, before) after =
+      let line : List ℕ = count_line numbers (count_by job.work (text_of job bytes)) (size_of bytes) name in
+      let adds : Appends mid new line =
+      subst (λ (size : Size). Appends mid new (count_line numbers (count_by job.work (text_of job bytes)) size name)) are.1
+      (subst (λ (segments : ℕ). Appends mid new (count_line numbers segments tally.size name)) are.0 after) in
+      (written ++ line, (written, printed, rw is refl), Appends-trans old mid new written line before adds)
 
   -- where it is known what was read
   pub counted-of : (read old mid new : Option (List ℕ)) (numbers : Numbers) (tally : Tally) → numbers_of job.work ≡ Some numbers
-      → IfSome read (λ bytes. IsTally job bytes tally × Appends old mid (printed_by job (said_by job name) bytes)) → Appends mid new (count_line numbers tally.segments tally.size name)
-      → IfSome read (λ bytes. IsTally job bytes tally × Appends old new (output_of job name bytes))
+      → IfSome read (λ bytes. IsTally job bytes tally × AppendsSome old mid (IsPrintedBy job (said_by job name) bytes)) → Appends mid new (count_line numbers tally.segments tally.size name)
+      → IfSome read (λ bytes. IsTally job bytes tally × AppendsSome old new (IsOutputOf job name bytes))
   counted-of None old mid new numbers tally is printed after = tt
   counted-of (Some bytes) old mid new numbers tally is printed after = (printed.0, counted bytes old mid new numbers tally is printed.0 printed.1 after)
 
   -- where they aren't counted
   pub uncounted-of : (read old new : Option (List ℕ)) (tally : Tally) → numbers_of job.work ≡ None
-      → IfSome read (λ bytes. IsTally job bytes tally × Appends old new (printed_by job (said_by job name) bytes))
-      → IfSome read (λ bytes. IsTally job bytes tally × Appends old new (output_of job name bytes))
+      → IfSome read (λ bytes. IsTally job bytes tally × AppendsSome old new (IsPrintedBy job (said_by job name) bytes))
+      → IfSome read (λ bytes. IsTally job bytes tally × AppendsSome old new (IsOutputOf job name bytes))
   uncounted-of None old new tally is printed = tt
-  uncounted-of (Some bytes) old new tally is printed = (printed.0, rw (is, append-nil (printed_by job (said_by job name) bytes)) printed.1)
+  uncounted-of (Some bytes) old new tally is (are, (written, printed, appends)) = (are, (written, (written, printed, rw is (sym (append-nil written))), appends))
 
 -- what is read is the whole text
-pub whole-found : (splitting : Splitting) (read : Option (List ℕ)) (text seen made shown : List ℕ) (count : ℕ) (size : Size) (old new : Option (List ℕ))
-    → IfSome read (λ bytes. text ≡ bytes) → seen ≡ text → size ≡ size_of seen → made ≡ text_for splitting text → shown ≡ made
+pub whole-found : (splitting : Splitting) (read : Option (List ℕ)) (text shown : List ℕ) (count : ℕ) (size : Size) (old new : Option (List ℕ))
+    → IfSome read (λ bytes. (text ≡ text_for splitting bytes) × (size ≡ size_of bytes)) → shown ≡ text
     → (count ≡ count_for splitting.printing shown) × Appends old new (printed_behind splitting.printing 0 shown)
     → IfSome read (λ bytes. (count ≡ found_for splitting bytes) × (size ≡ size_of bytes) × Appends old new (output_for splitting bytes))
-whole-found splitting None text seen made shown count size old new same is-seen is-size is-made is-shown printed = tt
-whole-found splitting (Some bytes) text seen made shown count size old new same is-seen is-size is-made is-shown (counted, written) =
-    let is : shown ≡ text_for splitting bytes = is-shown ∙ is-made ∙ ap (λ (text : List ℕ). text_for splitting text) same in
-    (counted ∙ ap (count_for splitting.printing) is, is-size ∙ ap size_of (is-seen ∙ same), subst (λ (text : List ℕ). Appends old new (printed_behind splitting.printing 0 text)) is written)
+whole-found splitting None text shown count size old new made is-shown printed = tt
+whole-found splitting (Some bytes) text shown count size old new (made, sized) is-shown (counted, written) =
+    let is : shown ≡ text_for splitting bytes = is-shown ∙ made in
+    (counted ∙ ap (count_for splitting.printing) is, sized, subst (λ (text : List ℕ). Appends old new (printed_behind splitting.printing 0 text)) is written)
+
+pub whole-balanced : (preparation : Preparation) (wrapping : Wrapping) (read : Option (List ℕ)) (text shown : List ℕ) (count : ℕ) (size : Size) (old new : Option (List ℕ))
+    → IfSome read (λ bytes. (text ≡ prepared preparation bytes) × (size ≡ size_of bytes)) → shown ≡ text → count ≡ 0 → AppendsSome old new (IsBalancedOutput wrapping shown)
+    → IfSome read (λ bytes. (count ≡ 0) × (size ≡ size_of bytes) × AppendsSome old new (IsBalancedOutput wrapping (prepared preparation bytes)))
+whole-balanced preparation wrapping None text shown count size old new made is-shown none printed = tt
+whole-balanced preparation wrapping (Some bytes) text shown count size old new (made, sized) is-shown none printed =
+    (none, sized, subst (λ (text : List ℕ). AppendsSome old new (IsBalancedOutput wrapping text)) (is-shown ∙ made) printed)
 
 pub begun-whole : (P Q : Type 0) (r : Result Tally Fault) → IfErr r (λ fault. IsReadFault fault → P) → IfErr r (λ fault. IsReadFault fault → P ⊎ Q)
 begun-whole P Q (Ok tally) is = tt
@@ -67,7 +76,7 @@ begun-whole P Q (Err fault) is = λ of_reader. inl (is of_reader)
 
 -- what is written part by part is what is written of the whole
 module _ (file : Option (List ℕ)) where
-  pub printed-split : (work : Work) (printing : Printing) (text : List ℕ) → IsPrintingOf work file printing → printed_behind printing 0 text ≡ work_output work file text
+  pub printed-split : (work : Work) (printing : Printing) (text : List ℕ) → IsPrintingOf work file printing → IsWorkOutput work file text (printed_behind printing 0 text)
   printed-split (Cut segmenter style) (Segments one how name) text (same, is, named) =
       ap₂ (λ (segmenter : Segmenter) (look : Look). lines_at look 0 text (segments_by segmenter text)) same
       (ap₂ (λ (style : Style) (file : Option (List ℕ)). let look : Look = record { style = style; file = file } in look) is named)
@@ -75,23 +84,34 @@ module _ (file : Option (List ℕ)) where
   printed-split (Cut segmenter style) (Lines one) text is = absurd is
   printed-split (Wrap wrapper) (Segments one how name) text is = absurd is
   printed-split (Wrap wrapper) (Lines one) text is = ap (λ (wrapper : Wrapper). wrapped_output (wrapping_of wrapper) text) is
+  printed-split (Balance wrapper) printing text is = absurd is
 
   count-split : (work : Work) (printing : Printing) (text : List ℕ) → IsPrintingOf work file printing → count_for printing text ≡ count_by work text
   count-split (Cut segmenter style) (Segments one how name) text (same, is, named) = ap (λ (segmenter : Segmenter). length (segments_by segmenter text)) same
   count-split (Cut segmenter style) (Lines one) text is = absurd is
   count-split (Wrap wrapper) (Segments one how name) text is = absurd is
   count-split (Wrap wrapper) (Lines one) text is = refl
+  count-split (Balance wrapper) printing text is = absurd is
 
   pub all-split : (job : Job) (splitting : Splitting) (read old new : Option (List ℕ)) (r : Result Tally Fault) → IsDoneBy job file splitting
       → IfOk r (λ tally. IfSome read (λ bytes. (tally.segments ≡ found_for splitting bytes) × (tally.size ≡ size_of bytes) × Appends old new (output_for splitting bytes)))
-      → IfOk r (λ tally. IfSome read (λ bytes. IsTally job bytes tally × Appends old new (printed_by job file bytes)))
+      → IfOk r (λ tally. IfSome read (λ bytes. IsTally job bytes tally × AppendsSome old new (IsPrintedBy job file bytes)))
   all-split job splitting read old new (Err fault) done all = tt
   all-split job splitting None old new (Ok tally) done all = tt
   all-split job splitting (Some bytes) old new (Ok tally) (same, is) (count, size, written) =
-      let text : text_for splitting bytes ≡ text_of job bytes = ap (λ (preparation : Preparation). prepared preparation bytes) same in (
-        (count ∙ ap (count_for splitting.printing) text ∙ count-split job.work splitting.printing (text_of job bytes) is, size),
-        subst (Appends old new) (ap (printed_behind splitting.printing 0) text ∙ printed-split job.work splitting.printing (text_of job bytes) is) written,
-      )
+      let text : text_for splitting bytes ≡ text_of job bytes = ap (λ (preparation : Preparation). prepared preparation bytes) same in
+      let printed : IsPrintedBy job file bytes (output_for splitting bytes) =
+      subst (IsPrintedBy job file bytes) (sym (ap (printed_behind splitting.printing 0) text)) (printed-split job.work splitting.printing (text_of job bytes) is) in
+      ((count ∙ ap (count_for splitting.printing) text ∙ count-split job.work splitting.printing (text_of job bytes) is, size), (output_for splitting bytes, printed, written))
+
+  -- and of balanced lines all is written at once
+  pub all-balanced : (job : Job) (wrapper : Wrapper) (read old new : Option (List ℕ)) (r : Result Tally Fault) → job.work ≡ Balance wrapper
+      → IfOk r (λ tally. IfSome read (λ bytes. (tally.segments ≡ 0) × (tally.size ≡ size_of bytes)
+      × AppendsSome old new (IsBalancedOutput (wrapping_of wrapper) (prepared job.preparation bytes))))
+      → IfOk r (λ tally. IfSome read (λ bytes. IsTally job bytes tally × AppendsSome old new (IsPrintedBy job file bytes)))
+  all-balanced job wrapper read old new (Err fault) is all = tt
+  all-balanced job wrapper None old new (Ok tally) is all = tt
+  all-balanced job wrapper (Some bytes) old new (Ok tally) is (count, size, written) = rw is ((count, size), written)
 
   pub begun-split : (job : Job) (splitting : Splitting) (from to old new : Option (List ℕ)) (P : Type 0) (r : Result Tally Fault) → IsDoneBy job file splitting
       → IfErr r (λ fault. IsReadFault fault → P ⊎ IsBegun splitting from to old new) → IfErr r (λ fault. IsReadFault fault → P ⊎ IsBegunBy job file from to old new)

@@ -18,7 +18,7 @@ use Rattle.segment_output.specs.declared.segmenter.Kind.{Kind}
 use Rattle.segment_output.specs.declared.segmenter.Kind.TheVariants as kind
 use Rattle.segment.specs.declared.command.Request.{Request}
 use Rattle.segment.specs.declared.command.Task.{Task}
-use Rattle.segment.specs.declared.command.Task.TheVariants.{Cut, Wrap}
+use Rattle.segment.specs.declared.command.Task.TheVariants.{Balance, Cut, Wrap}
 use Rattle.segment_text.specs.declared.preparation.Preparation.{Preparation}
 use Rattle.segment_output.specs.declared.wrapper.Width.{Width}
 use Rattle.segment_output.specs.declared.output.Numbers.{Numbers}
@@ -139,7 +139,8 @@ IsTask word found (Cut kind style engine) =
     × IsFlag found (codes "words") (is_alone kind)
     × IsStyle found style
     × IsEngine (first_value found (codes "engine")) engine
-IsTask word found (Wrap width) = (word ≡ codes "wrap") × IsWidth found width
+IsTask word found (Wrap width) = (word ≡ codes "wrap") × IsFlag found (codes "balanced") false × IsWidth found width
+IsTask word found (Balance width) = (word ≡ codes "wrap") × IsFlag found (codes "balanced") true × IsWidth found width
 
 -- all values of an argument
 abbrev pub values_of : Found → List ℕ → List (List ℕ)

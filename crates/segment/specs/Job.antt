@@ -1,5 +1,5 @@
 -- What a job writes of a text, and which one is asked for.
-use Rattle.std.specs.Prelude.{◌≡◌, ℕ, Bool, if◌then◌else◌, true, false, Option, None, Some, List, [], ◌++◌, length}
+use Rattle.std.specs.Prelude.{◌≡◌, ℕ, if◌then◌else◌, false, Option, None, Some, List, [], ◌++◌, length}
 use Rattle.std.specs.Option.{option_map, option_map_or}
 use Rattle.icu_segmenter.specs.ScriptWords.{ScriptWords}
 use Rattle.icu_segmenter.specs.WordSets.{Words}
@@ -9,6 +9,7 @@ use Rattle.segment_output.specs.Parts.{IsBegun}
 use Rattle.segment_text.specs.Preparation.{prepared}
 use Rattle.segment_output.specs.Segmenter.{segments_by, IsAskedOf}
 use Rattle.segment_text.specs.Size.{size_of}
+use Rattle.segment_output.specs.Balanced.{IsBalancedOutput}
 use Rattle.segment_output.specs.Wrapped.{wrapped_output}
 use Rattle.segment_output.specs.Wrapper.{wrapping_of, IsAskedWrapper}
 use Rattle.segment_output.specs.declared.segmenter.Engine.{Engine}
@@ -20,7 +21,7 @@ use Rattle.segment_text.specs.declared.size.Tally.{Tally}
 use Rattle.segment_output.specs.declared.output.Numbers.{Numbers}
 use Rattle.segment.specs.declared.job.Job.{Job}
 use Rattle.segment.specs.declared.job.Work.{Work}
-use Rattle.segment.specs.declared.job.Work.TheVariants.{Cut, Wrap}
+use Rattle.segment.specs.declared.job.Work.TheVariants.{Balance, Cut, Wrap}
 use Rattle.segment_output.specs.declared.output.Style.TheVariants.{Counted}
 use Rattle.segment_output.specs.declared.parts.Printing.{Printing}
 use Rattle.segment_output.specs.declared.parts.Printing.TheVariants.{Segments, Lines}
@@ -29,9 +30,10 @@ use Rattle.segment_output.specs.declared.parts.Splitting.{Splitting}
 -- ---- a text to which the work is done
 
 -- what is written of it, with the name of its file where that is said
-abbrev pub work_output : Work → Option (List ℕ) → List ℕ → List ℕ
-work_output (Cut segmenter style) file text = lines_of (record { style = style; file = file }) text (segments_by segmenter text)
-work_output (Wrap wrapper) file text = wrapped_output (wrapping_of wrapper) text
+abbrev pub IsWorkOutput : Work → Option (List ℕ) → List ℕ → List ℕ → Type 0
+IsWorkOutput (Cut segmenter style) file text written = written ≡ lines_of (record { style = style; file = file }) text (segments_by segmenter text)
+IsWorkOutput (Wrap wrapper) file text written = written ≡ wrapped_output (wrapping_of wrapper) text
+IsWorkOutput (Balance wrapper) file text written = IsBalancedOutput (wrapping_of wrapper) text written
 
 -- the numbers beside that of the segments, where these are only counted
 abbrev pub numbers_of : Work → Option Numbers
@@ -42,6 +44,7 @@ numbers_of work = None
 abbrev pub count_by : Work → List ℕ → ℕ
 count_by (Cut segmenter style) text = length (segments_by segmenter text)
 count_by (Wrap wrapper) text = 0
+count_by (Balance wrapper) text = 0
 
 -- what is written part by part is what the work writes
 abbrev pub IsPrintingOf : Work → Option (List ℕ) → Printing → Type 0
@@ -60,8 +63,8 @@ abbrev pub said_by : Job → Option (List ℕ) → Option (List ℕ)
 said_by job name = if job.names_files then name else None
 
 -- what is written of them, with the name that is said
-abbrev pub printed_by : Job → Option (List ℕ) → List ℕ → List ℕ
-printed_by job file bytes = work_output job.work file (text_of job bytes)
+abbrev pub IsPrintedBy : Job → Option (List ℕ) → List ℕ → List ℕ → Type 0
+IsPrintedBy job file bytes written = IsWorkOutput job.work file (text_of job bytes) written
 
 -- what is done part by part is what the job does
 abbrev pub IsDoneBy : Job → Option (List ℕ) → Splitting → Type 0
@@ -75,9 +78,13 @@ IsBegunBy job file from to old new = (splitting : Splitting) × IsDoneBy job fil
 abbrev pub IsTally : Job → List ℕ → Tally → Type 0
 IsTally job bytes tally = (tally.segments ≡ count_by job.work (text_of job bytes)) × (tally.size ≡ size_of bytes)
 
--- all that is written of some bytes that have a name or none: the segments or the lines of their text, or how many segments it has
-abbrev pub output_of : Job → Option (List ℕ) → List ℕ → List ℕ
-output_of job name bytes = printed_by job (said_by job name) bytes ++ option_map_or (λ numbers. count_line numbers (count_by job.work (text_of job bytes)) (size_of bytes) name) (numbers_of job.work) []
+-- how many segments some bytes have that have a name or none, on a line, where segments are only counted
+abbrev pub counted_by : Job → Option (List ℕ) → List ℕ → List ℕ
+counted_by job name bytes = option_map_or (λ numbers. count_line numbers (count_by job.work (text_of job bytes)) (size_of bytes) name) (numbers_of job.work) []
+
+-- all that is written of them: the segments or the lines of their text, or how many segments it has
+abbrev pub IsOutputOf : Job → Option (List ℕ) → List ℕ → List ℕ → Type 0
+IsOutputOf job name bytes written = (printed : List ℕ) × IsPrintedBy job (said_by job name) bytes printed × (written ≡ printed ++ counted_by job name bytes)
 
 -- options of lines are those of a request
 abbrev pub AreOptions : Request → LineBreakOptions → Type 0
@@ -92,6 +99,8 @@ IsAskedWork request words abbreviations (Cut segmenter style) =
     × ((options : LineBreakOptions) × AreOptions request options × IsAskedOf kind engine options words abbreviations segmenter)
 IsAskedWork request words abbreviations (Wrap wrapper) =
     (width : Width) × (request.task ≡ task.Wrap width) × ((options : LineBreakOptions) × AreOptions request options × IsAskedWrapper width options words wrapper)
+IsAskedWork request words abbreviations (Balance wrapper) =
+    (width : Width) × (request.task ≡ task.Balance width) × ((options : LineBreakOptions) × AreOptions request options × IsAskedWrapper width options words wrapper)
 
 -- a job is the one that a request asks for
 abbrev pub IsAsked : Request → ScriptWords → Option Words → Job → Type 0

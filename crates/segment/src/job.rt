@@ -3,16 +3,16 @@ ghost use Rattle.std.specs.Prelude.{◌≡◌, IfOk};
 ghost use Rattle.std.specs.Option.{option_map};
 ghost use Rattle.icu_segmenter.specs.Abbreviations.{abbreviations_of};
 ghost use Rattle.icu_segmenter.specs.ScriptWords.{script_words};
-ghost use Rattle.segment.specs.Job.{numbers_of, said_by, AreOptions, IsAsked, IsAskedWork, IsPrintingOf};
+ghost use Rattle.segment_output.specs.Wrapper.{IsAskedWrapper};
+ghost use Rattle.segment.specs.Job.{numbers_of, said_by, AreOptions, IsAsked, IsAskedWork};
 
 use crate::command::{Request, Task};
 use anyhow::Result;
 use icu_segmenter::options::LineBreakOptions;
 use segment_output::output::{Numbers, Style};
-use segment_output::parts::Printing;
 use segment_output::segmenter::{Segmenter, segmenter_of};
 use segment_output::vocabulary::Vocabulary;
-use segment_output::wrapper::{Wrapper, wrapper_of};
+use segment_output::wrapper::{Width, Wrapper, wrapper_of};
 use segment_text::preparation::Preparation;
 use std::alloc::Global;
 
@@ -34,18 +34,8 @@ pub enum Work {
     Cut(Segmenter, Style),
     /// Its lines are wrapped.
     Wrap(Wrapper),
-}
-
-impl Work {
-    /// What is written, with this name of a file where lines say it.
-    pub fn printing<'w>(&'w self, file: Option<&'w str>) -> Printing<'w>
-        ensures { IsPrintingOf self.now (option_map (λ name. name.now) file.entry) result }
-    {
-        match self {
-            Work::Cut(segmenter, style) => Printing::Segments(segmenter, *style, file),
-            Work::Wrap(wrapper) => Printing::Lines(wrapper),
-        }
-    }
+    /// Its lines are balanced.
+    Balance(Wrapper),
 }
 
 impl Job {
@@ -87,15 +77,20 @@ fn work_of(alloc: Global, request: &Request, words: Vocabulary) -> Result<Work>
             let segmenter = segmenter_of(alloc, kind, engine, options_of(request), words)?;
             Ok(Work::Cut(segmenter, style))
         }
-        Task::Wrap(width) => {
-            let Vocabulary {
-                dictionaries,
-                abbreviations: _,
-            } = words;
-            let wrapper = wrapper_of(alloc, width, options_of(request), dictionaries)?;
-            Ok(Work::Wrap(wrapper))
-        }
+        Task::Wrap(width) => Ok(Work::Wrap(wrapper_by(alloc, width, request, words)?)),
+        Task::Balance(width) => Ok(Work::Balance(wrapper_by(alloc, width, request, words)?)),
     }
+}
+
+// The wrapper to a width that a request asks for.
+fn wrapper_by(alloc: Global, width: Width, request: &Request, words: Vocabulary) -> Result<Wrapper>
+    ensures { IfOk result (λ wrapper. (options : _) × AreOptions request.now options × IsAskedWrapper width options (script_words words.dictionaries) wrapper) }
+{
+    let Vocabulary {
+        dictionaries,
+        abbreviations: _,
+    } = words;
+    Ok(wrapper_of(alloc, width, options_of(request), dictionaries)?)
 }
 
 // The options of lines that are asked for.

@@ -3,6 +3,7 @@
 #![tactic(auto)]
 
 mod abbreviations;
+mod arguments;
 mod command;
 mod dictionary;
 mod files;
@@ -16,9 +17,10 @@ mod words;
 
 use abbreviations::{Place, abbreviations_at, place_of};
 use anyhow::{Result, bail};
+use arguments::command_line;
 use clap::ArgMatches;
 use clap::error::ErrorKind;
-use command::{Columns, Request, columns_by, command_line, request_of};
+use command::{Columns, Request, columns_by, request_of};
 use dictionary::dictionaries_of;
 use files::run_all;
 use job::{Job, job_of};

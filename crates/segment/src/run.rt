@@ -1,15 +1,20 @@
 //! The program, over any reader and writer.
 ghost use Rattle.std.specs.Prelude.{◌≡◌, ◌⊎◌, option_map, IfErr, IfOk, IfSome, OnOk};
 ghost use Rattle.std.specs.Io.KnownBytes.{Appends, IsAtEnd};
+ghost use Rattle.segment_output.specs.Balanced.{AppendsSome, IsBalancedOutput};
 ghost use Rattle.segment_output.specs.Fault.{IsReadFault};
 ghost use Rattle.segment_output.specs.Parts.{found_for, output_for};
 ghost use Rattle.segment_text.specs.Size.{size_of};
-ghost use Rattle.segment.specs.Job.{output_of, printed_by, said_by, IsBegunBy, IsTally};
+ghost use Rattle.segment_output.specs.Wrapper.{wrapping_of};
+ghost use Rattle.segment_text.specs.Preparation.{prepared};
+ghost use Rattle.segment.specs.Job.{said_by, IsBegunBy, IsOutputOf, IsPrintedBy, IsTally};
 
-use crate::job::Job;
+use crate::job::{Job, Work};
 use segment_output::fault::Fault;
 use segment_output::output::write_count;
-use segment_output::parts::{Splitting, print_parts};
+use segment_output::parts::{Printing, Splitting, print_parts};
+use segment_output::wrapper::Wrapper;
+use segment_text::preparation::Preparation;
 use segment_text::size::{Size, Tally};
 use std::alloc::Global;
 use std::io::{Read, Write};
@@ -27,7 +32,7 @@ pub fn run<I: Read, O: Write>(
 ) -> Result<Tally, Fault>
     ensures read_all { OnOk result (IsAtEnd (I.remaining input.new)) }
     ensures written { IfOk result (λ tally. IfSome (I.remaining input.old) (λ bytes. IsTally job.now bytes tally
-        × Appends (O.contents out.old) (O.contents out.new) (output_of job.now (option_map (λ name. name.now) name.entry) bytes))) }
+        × AppendsSome (O.contents out.old) (O.contents out.new) (IsOutputOf job.now (option_map (λ name. name.now) name.entry) bytes))) }
     ensures begun { IfErr result (λ fault. IsReadFault fault → (out.new ≡ out.old)
         ⊎ IsBegunBy job.now (said_by job.now (option_map (λ name. name.now) name.entry)) (I.remaining input.old) (I.remaining input.new) (O.contents out.old) (O.contents out.new)) }
 {
@@ -54,6 +59,23 @@ fn read_text<I: Read>(alloc: Global, input: &mut I) -> Result<Vec<u8>, Fault>
     Ok(text)
 }
 
+// The text that is made of all that the reader has, and how large that was.
+fn read_prepared<I: Read>(
+    alloc: Global,
+    preparation: Preparation,
+    input: &mut I,
+) -> Result<(Vec<u8>, Size), Fault>
+    ensures made { IfOk result (λ made. IfSome (I.remaining input.old) (λ bytes. (made.0.items ≡ prepared preparation bytes) × (made.1 ≡ size_of bytes))) }
+    ensures end { OnOk result (IsAtEnd (I.remaining input.new)) }
+{
+    let text = read_text(alloc, input)?;
+    let size = Size::of(text.as_slice());
+    match preparation.apply(alloc, text) {
+        Ok(made) => Ok((made, size)),
+        Err(_) => Err(Fault::MemoryBefore),
+    }
+}
+
 // Writes the segments of what a reader has, each on a line of its own, unless they are only counted, or its wrapped lines.
 fn print_job<I: Read, O: Write>(
     alloc: Global,
@@ -64,15 +86,23 @@ fn print_job<I: Read, O: Write>(
 ) -> Result<Tally, Fault>
     ensures read_all { OnOk result (IsAtEnd (I.remaining input.new)) }
     ensures written { IfOk result (λ tally. IfSome (I.remaining input.old) (λ bytes. IsTally job.now bytes tally
-        × Appends (O.contents out.old) (O.contents out.new) (printed_by job.now (option_map (λ name. name.now) file.entry) bytes))) }
+        × AppendsSome (O.contents out.old) (O.contents out.new) (IsPrintedBy job.now (option_map (λ name. name.now) file.entry) bytes))) }
     ensures begun { IfErr result (λ fault. IsReadFault fault → (out.new ≡ out.old)
         ⊎ IsBegunBy job.now (option_map (λ name. name.now) file.entry) (I.remaining input.old) (I.remaining input.new) (O.contents out.old) (O.contents out.new)) }
 {
-    let splitting = Splitting {
-        printing: job.work.printing(file),
-        preparation: job.preparation,
+    let preparation = job.preparation;
+    let printing = match &job.work {
+        Work::Cut(segmenter, style) => Printing::Segments(segmenter, *style, file),
+        Work::Wrap(wrapper) => Printing::Lines(wrapper),
+        Work::Balance(wrapper) => {
+            return print_balanced(alloc, wrapper, preparation, input, out);
+        }
     };
-    if splitting.printing.has_parts() {
+    let splitting = Splitting {
+        printing,
+        preparation,
+    };
+    if printing.has_parts() {
         return print_parts(alloc, splitting, input, out);
     }
     print_whole(alloc, splitting, input, out)
@@ -91,13 +121,29 @@ fn print_whole<I: Read, O: Write>(
         × Appends (O.contents out.old) (O.contents out.new) (output_for splitting.entry bytes))) }
     ensures unwritten { IfErr result (λ fault. IsReadFault fault → out.new ≡ out.old) }
 {
-    let text = read_text(alloc, input)?;
-    let size = Size::of(text.as_slice());
-    let Ok(made) = splitting.preparation.apply(alloc, text) else {
-        return Err(Fault::MemoryBefore);
-    };
-    match splitting.printing.print(alloc, made.as_slice(), 0, out) {
+    let (text, size) = read_prepared(alloc, splitting.preparation, input)?;
+    match splitting.printing.print(alloc, text.as_slice(), 0, out) {
         Ok(segments) => Ok(Tally { segments, size }),
+        Err(error) => Err(Fault::of_writing(error)),
+    }
+}
+
+// Writes the balanced lines of a text, all of which is read first.
+fn print_balanced<I: Read, O: Write>(
+    alloc: Global,
+    wrapper: &Wrapper,
+    preparation: Preparation,
+    input: &mut I,
+    out: &mut O,
+) -> Result<Tally, Fault>
+    ensures read_all { OnOk result (IsAtEnd (I.remaining input.new)) }
+    ensures written { IfOk result (λ tally. IfSome (I.remaining input.old) (λ bytes. (tally.segments ≡ 0) × (tally.size ≡ size_of bytes)
+        × AppendsSome (O.contents out.old) (O.contents out.new) (IsBalancedOutput (wrapping_of wrapper.now) (prepared preparation bytes)))) }
+    ensures unwritten { IfErr result (λ fault. IsReadFault fault → out.new ≡ out.old) }
+{
+    let (text, size) = read_prepared(alloc, preparation, input)?;
+    match wrapper.print_balanced(alloc, text.as_slice(), out) {
+        Ok(()) => Ok(Tally { segments: 0, size }),
         Err(error) => Err(Fault::of_writing(error)),
     }
 }

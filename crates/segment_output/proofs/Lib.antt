@@ -1,3 +1,4 @@
+pub mod BalancedLines
 pub mod BareLines
 pub mod BareObjects
 pub mod Gathered

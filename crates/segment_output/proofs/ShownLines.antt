@@ -1,9 +1,14 @@
 -- One line more is written.
-use Rattle.std.proofs.Common.{◌≡◌, ℕ, Option, List, [], ◌∷◌, ◌++◌, map, sym, ap, ◌∙◌, append_assoc, append-nil}
+use Rattle.std.proofs.Common.{◌≡◌, ℕ, Option, Result, Ok, Err, OnOk, List, [], ◌∷◌, ◌++◌, map, sym, ap, ◌∙◌, append_assoc, append-nil}
 use Rattle.std.proofs.lemmas.List.{map-append}
 use Rattle.std.proofs.lemmas.Grind.{flat_map-append}
 use Rattle.std.specs.List.{flat_map}
 use Rattle.segment_output.specs.Gathered.{AreGathered}
+
+-- what follows from what was done was done
+pub on_ok : {T E : Type 0} (P Q : Type 0) (result : Result T E) → (P → Q) → OnOk result P → OnOk result Q
+on_ok P Q (Ok done) on given = on given
+on_ok P Q (Err error) on given = given
 
 -- the bytes of lines that are seen through a view
 module _ {X Y : Type 0} (bytes_of : Y → List ℕ) (view : X → Y) where

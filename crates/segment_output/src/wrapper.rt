@@ -10,15 +10,18 @@ ghost use Rattle.icu_segmenter.specs.Lines.{owned_line_rules};
 ghost use Rattle.icu_segmenter.specs.NearBoundaries.{line_feed};
 ghost use Rattle.icu_segmenter.specs.Rules.{PartsBehind};
 ghost use Rattle.icu_segmenter.specs.ScriptWords.{script_words};
-ghost use Rattle.icu_segmenter.specs.WrappedLines.{utf8_line_in, utf8_lines_to_come, wrapper_measure, wrapper_rules};
+ghost use Rattle.icu_segmenter.specs.WrappedLines.{utf8_lines_to_come, wrapper_measure, wrapper_rules};
+ghost use Rattle.icu_segmenter.specs.Wrapping.{TextLine};
 ghost use Rattle.segment_output.specs.Wrapped.{EndsLines, cluster_lines, printed_lines, shown_as, shown_line, shown_lines, wrapped_output};
 ghost use Rattle.segment_output.specs.Wrapper.{wrapping_of, IsAskedWrapper};
+
+mod balanced;
 
 use crate::machine_lines::MachineLines;
 use crate::output::{LINES_CAPACITY, LINES_LEN, write_lines};
 use icu_segmenter::options::{LineBreakOptions, LineBreakStrictness};
 use icu_segmenter::provider::{DataError, Dictionaries};
-use icu_segmenter::wrap::{LineWrapper, WrapUtf8Iterator, WrappedUtf8Line};
+use icu_segmenter::wrap::{LineWrapper, WrapUtf8Iterator};
 use icu_segmenter::{GraphemeClusterSegmenter, GraphemeClusterSegmenterBorrowed};
 use icu_segmenter_data::grapheme_segmenter;
 use segment_text::trimmed::{push_line, without_trailing_space};
@@ -82,7 +85,7 @@ impl Wrapper {
     {
         let mut gathered = Vec::with_capacity(alloc, LINES_CAPACITY)?;
         for line in lines {
-            self.push_shown(line, &mut gathered)?;
+            self.push_shown(line.bytes(), line.columns(), &mut gathered)?;
             if gathered.len() >= LINES_LEN {
                 write_lines(&mut gathered, out)?;
             }
@@ -91,20 +94,22 @@ impl Wrapper {
         out.flush()
     }
 
-    // Adds a line as it is shown.
+    // Adds a line that takes so many columns as it is shown.
     fn push_shown(
         &self,
-        line: WrappedUtf8Line<'_>,
+        line: &[u8],
+        columns: u128,
         gathered: &mut Vec<u8>,
     ) -> Result<(), AllocError>
-        ensures { OnOk result (gathered.new.items ≡ gathered.old.items ++ shown_line (wrapping_of self.now) (utf8_line_in line.entry)) }
+        ensures { OnOk result ((shown : TextLine) → shown.units ≡ line.now → shown.columns ≡ columns
+            → gathered.new.items ≡ gathered.old.items ++ shown_line (wrapping_of self.now) shown) }
     {
         match &self.clusters {
             Some(clusters) => {
                 let wrapper = clusters.wrapper(self.counted_clusters());
-                push_broken(line, wrapper, self.columns, gathered)
+                push_broken(line, columns, wrapper, self.columns, gathered)
             }
-            None => push_line(line.bytes(), gathered),
+            None => push_line(line, gathered),
         }
     }
 
@@ -125,20 +130,22 @@ impl Wrapper {
     }
 }
 
-// Adds a line, wrapped once more by this where it is wider than the columns.
+// Adds a line that takes so many columns, wrapped once more by this where it takes more than there are.
 fn push_broken(
-    line: WrappedUtf8Line<'_>,
+    line: &[u8],
+    taken: u128,
     wrapper: LineWrapper<'_>,
     columns: usize,
     gathered: &mut Vec<u8>,
 ) -> Result<(), AllocError>
-    ensures { OnOk result (gathered.new.items ≡ gathered.old.items ++ printed_lines (shown_as (wrapper_measure wrapper.entry) (Some (wrapper_rules wrapper.entry)) columns (utf8_line_in line.entry))) }
+    ensures { OnOk result ((shown : TextLine) → shown.units ≡ line.now → shown.columns ≡ taken
+        → gathered.new.items ≡ gathered.old.items ++ printed_lines (shown_as (wrapper_measure wrapper.entry) (Some (wrapper_rules wrapper.entry)) columns shown)) }
 {
-    if line.columns() <= columns as u128 {
-        return push_line(line.bytes(), gathered);
+    if taken <= columns as u128 {
+        return push_line(line, gathered);
     }
     push_lines(
-        wrapper.wrap_utf8(without_trailing_space(line.bytes()), columns),
+        wrapper.wrap_utf8(without_trailing_space(line), columns),
         gathered,
     )
 }

@@ -21,9 +21,6 @@ ghost use Rattle.icu_segmenter.specs.WrappedLines.{lines_to_come};
 ghost use Rattle.textcut.specs.declared.failure.Failure.{Failure as AnyFailure};
 ghost use Rattle.textcut.specs.declared.request.Request.{Request as AnyRequest};
 
-#[cfg(test)]
-mod tests;
-
 use crate::command::Command;
 use crate::failure::{Failure, PrintFailure};
 use crate::lines::print_lines;

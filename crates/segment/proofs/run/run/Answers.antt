@@ -1,7 +1,7 @@
 -- After what is printed comes how many segments there are.
 use Rattle.std.proofs.Common.{◌≡◌, ◌⊎◌, ℕ, List, Option, IfSome, option_map, subst, sym}
-use Rattle.std.specs.Io.KnownBytes.{Appends}
-use Rattle.segment.specs.Job.{IsBegunBy, IsTally, printed_by}
+use Rattle.segment_output.specs.Balanced.{AppendsSome}
+use Rattle.segment.specs.Job.{IsBegunBy, IsPrintedBy, IsTally}
 use Rattle.segment.proofs.Counted.{counted-of, uncounted-of}
 use Rattle.segment.proofs.run.run.Goals as goal
 
@@ -9,14 +9,14 @@ pub returns-in_default-clause-written : goal.returns-in_default-clause-written
 returns-in_default-clause-written g c =
     uncounted-of c.args.job.now (option_map (λ name. name.now) c.args.name) (g.I.Read.remaining c.args.input.now) _ _ c.in-Ok.tally (sym c.in_default.ensures)
     (subst (λ (file : Option (List ℕ)). IfSome (g.I.Read.remaining c.args.input.now) (λ bytes. IsTally c.args.job.now bytes c.in-Ok.tally
-    × Appends (g.O.Write.contents c.args.out.now) (g.O.Write.contents c.print_job.new.out) (printed_by c.args.job.now file bytes))) c.said.ensures c.in-Ok.ensures.written)
+    × AppendsSome (g.O.Write.contents c.args.out.now) (g.O.Write.contents c.print_job.new.out) (IsPrintedBy c.args.job.now file bytes))) c.said.ensures c.in-Ok.ensures.written)
 
 pub returns-in-Ok-write_count-clause-written : goal.returns-in-Ok-write_count-clause-written
 returns-in-Ok-write_count-clause-written g c =
     counted-of c.args.job.now (option_map (λ name. name.now) c.args.name) (g.I.Read.remaining c.args.input.now) _ _ _ c.in-Some.numbers
     c.in-Ok.tally (sym c.in-Some.ensures)
     (subst (λ (file : Option (List ℕ)). IfSome (g.I.Read.remaining c.args.input.now) (λ bytes. IsTally c.args.job.now bytes c.in-Ok.tally
-    × Appends (g.O.Write.contents c.args.out.now) (g.O.Write.contents c.print_job.new.out) (printed_by c.args.job.now file bytes))) c.said.ensures c.in-Ok.ensures.written)
+    × AppendsSome (g.O.Write.contents c.args.out.now) (g.O.Write.contents c.print_job.new.out) (IsPrintedBy c.args.job.now file bytes))) c.said.ensures c.in-Ok.ensures.written)
     c.in-Ok-write_count.ensures
 
 pub returns-in-Err-clause-begun : goal.returns-in-Err-clause-begun

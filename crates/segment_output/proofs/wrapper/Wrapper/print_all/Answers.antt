@@ -1,5 +1,5 @@
 -- One line more is gathered.
-use Rattle.std.proofs.Common.{◌≡◌, ℕ, List, map, ap, rules}
+use Rattle.std.proofs.Common.{◌≡◌, ℕ, List, map, ap, sym, rules}
 use Rattle.std.proofs.lemmas.Iterator.Consumers.{YieldsList-end, YieldsList-from_first}
 use Rattle.std.specs.Io.KnownBytes.{Appends}
 use Rattle.icu_segmenter.specs.WrappedLines.{utf8_line_in, utf8_lines_to_come}
@@ -11,12 +11,14 @@ use Rattle.segment_output.proofs.wrapper.Wrapper.print_all.Goals as goal
 
 pub loop-line-preserved : goal.loop-line-preserved
 loop-line-preserved g c =
-    gathered-line (shown_line (wrapping_of c.args.self.now)) utf8_line_in c.loop-line.yielded c.in-Some.line _ _ _ _ c.loop-line.invariant c.in_ok-push_shown.ensures
+    gathered-line (shown_line (wrapping_of c.args.self.now)) utf8_line_in c.loop-line.yielded c.in-Some.line _ _ _ _ c.loop-line.invariant
+    (c.in_ok-push_shown.ensures (utf8_line_in c.in-Some.line) (sym c.bytes.ensures) (sym c.columns.ensures))
 
 pub loop-line-preserved-in-Continue-branch-3 : goal.loop-line-preserved-in-Continue-branch-3
 loop-line-preserved-in-Continue-branch-3 g c =
     gathered-written _ _ _ _ _ _
-    (gathered-line (shown_line (wrapping_of c.args.self.now)) utf8_line_in c.loop-line.yielded c.in-Some.line _ _ _ _ c.loop-line.invariant c.in_ok-push_shown.ensures)
+    (gathered-line (shown_line (wrapping_of c.args.self.now)) utf8_line_in c.loop-line.yielded c.in-Some.line _ _ _ _ c.loop-line.invariant
+    (c.in_ok-push_shown.ensures (utf8_line_in c.in-Some.line) (sym c.bytes.ensures) (sym c.columns.ensures)))
     c.in_ok-write_lines.ensures
 
 pub returns : goal.returns

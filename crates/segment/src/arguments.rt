@@ -1,0 +1,528 @@
+//! The arguments of the command line: each kind of segments is a subcommand, and what it takes stands in lists.
+
+use crate::command::Columns;
+use clap::builder::ValueParser;
+use clap::{Arg, ArgAction, Command, value_parser};
+use std::alloc::{AllocError, Global};
+
+// What follows the name of an argument.
+#[derive(Clone, Copy)]
+enum Value<'a> {
+    // Nothing: it is a flag.
+    Nothing,
+    // A text, and what help calls it.
+    Text(&'a str),
+    // A text each time that it is given.
+    Texts(&'a str),
+    // A number of columns.
+    Columns,
+    // One of these words.
+    OneOf(&'a [&'a str]),
+    // One of these words each time that it is given.
+    EachOf(&'a [&'a str]),
+}
+
+// An argument with a name.
+struct Argument<'a> {
+    name: &'a str,
+    value: Value<'a>,
+    help: &'a str,
+    // The arguments beside which it can't be given.
+    conflicts: &'a [&'a str],
+    // The arguments without which it can't be given.
+    needs: &'a [&'a str],
+}
+
+// What stands without a name before the files.
+#[derive(Clone, Copy, PartialEq, Eq)]
+enum Operand {
+    Nothing,
+    Rules,
+    Columns,
+}
+
+// A kind of segments: what it takes, list after list.
+struct Kind<'a> {
+    name: &'a str,
+    about: &'a str,
+    operand: Operand,
+    arguments: &'a [&'a [Argument<'a>]],
+}
+
+// What the file VERSION says, the versions of Unicode, and the logic that `rt version` names: tools/versions compares them.
+const VERSION: &str =
+    "1.0.0\nUnicode 18.0; lines by the rules of 17.0\nProved in Rattle, logic dac8208d650f15bf";
+
+const NONE: [&str; 0] = [];
+
+const STYLES: [&str; 4] = ["offsets", "raw", "null", "json"];
+
+const ENGINES: [&str; 2] = ["neo", "classic"];
+
+const LINE_ENGINES: [&str; 3] = ["neo", "classic", "17"];
+
+const STRICTNESSES: [&str; 4] = ["loose", "normal", "strict", "anywhere"];
+
+const WORD_OPTIONS: [&str; 3] = ["normal", "break-all", "keep-all"];
+
+const SCRIPTS: [&str; 5] = ["thai", "lao", "khmer", "myanmar", "cj"];
+
+const ENGINE: [Argument<'static>; 1] = [Argument {
+    name: "engine",
+    value: Value::OneOf(&ENGINES),
+    help: "A state machine, or a pair table [default: neo]",
+    conflicts: &NONE,
+    needs: &NONE,
+}];
+
+const LINE_ENGINE: [Argument<'static>; 1] = [Argument {
+    name: "engine",
+    value: Value::OneOf(&LINE_ENGINES),
+    help: "A state machine, a pair table, or a pair table by other rules [default: neo]",
+    conflicts: &NONE,
+    needs: &NONE,
+}];
+
+// How segments are written.
+const WRITTEN: [Argument<'static>; 3] = [
+    Argument {
+        name: "offsets",
+        value: Value::Nothing,
+        help: "Write where each segment begins and ends, in bytes",
+        conflicts: &NONE,
+        needs: &NONE,
+    },
+    Argument {
+        name: "raw",
+        value: Value::Nothing,
+        help: "Write control characters and backslashes as they are, and not as escapes",
+        conflicts: &NONE,
+        needs: &NONE,
+    },
+    Argument {
+        name: "null",
+        value: Value::Nothing,
+        help: "Write segments as they are, each with a zero byte after it and no line feed",
+        conflicts: &["offsets"],
+        needs: &NONE,
+    },
+];
+
+const JSON: [Argument<'static>; 1] = [Argument {
+    name: "json",
+    value: Value::Nothing,
+    help: "Write a JSON object for each segment: text, begin, end",
+    conflicts: &["offsets", "raw", "null"],
+    needs: &NONE,
+}];
+
+const WORD_JSON: [Argument<'static>; 1] = [Argument {
+    name: "json",
+    value: Value::Nothing,
+    help: "Write a JSON object for each segment: text, begin, end, type",
+    conflicts: &["offsets", "raw", "null"],
+    needs: &NONE,
+}];
+
+const LINE_JSON: [Argument<'static>; 1] = [Argument {
+    name: "json",
+    value: Value::Nothing,
+    help: "Write a JSON object for each segment: text, begin, end, mandatory",
+    conflicts: &["offsets", "raw", "null"],
+    needs: &NONE,
+}];
+
+const RULES_JSON: [Argument<'static>; 1] = [Argument {
+    name: "json",
+    value: Value::Nothing,
+    help: "Write a JSON object for each segment: text, begin, end, status",
+    conflicts: &["offsets", "raw", "null"],
+    needs: &NONE,
+}];
+
+// How many segments there are, in place of what they are.
+const COUNTED: [Argument<'static>; 3] = [
+    Argument {
+        name: "count",
+        value: Value::Nothing,
+        help: "Write how many segments there are, and no segment",
+        conflicts: &STYLES,
+        needs: &NONE,
+    },
+    Argument {
+        name: "lines",
+        value: Value::Nothing,
+        help: "With --count, write how many line feeds there are, too",
+        conflicts: &STYLES,
+        needs: &["count"],
+    },
+    Argument {
+        name: "bytes",
+        value: Value::Nothing,
+        help: "With --count, write how many bytes there are, too",
+        conflicts: &STYLES,
+        needs: &["count"],
+    },
+];
+
+const WORDS: [Argument<'static>; 1] = [Argument {
+    name: "words",
+    value: Value::Nothing,
+    help: "Leave out what stands between words",
+    conflicts: &NONE,
+    needs: &NONE,
+}];
+
+const JOIN: [Argument<'static>; 1] = [Argument {
+    name: "join",
+    value: Value::Nothing,
+    help: "Join the lines between blank lines first, each two by a space",
+    conflicts: &NONE,
+    needs: &NONE,
+}];
+
+// Abbreviations go with the default engine: only its texts are split after line feeds.
+const ABBREVIATIONS: [Argument<'static>; 3] = [
+    Argument {
+        name: "abbreviations",
+        value: Value::Text("FILE"),
+        help: "A file of abbreviations, one a line, after which a sentence goes on",
+        conflicts: &["lang", "engine"],
+        needs: &NONE,
+    },
+    Argument {
+        name: "lang",
+        value: Value::Text("LANGUAGE"),
+        help: "The language of the text, as en or en-GB: takes such a file from the folder, as abbreviations-en.txt",
+        conflicts: &["engine"],
+        needs: &NONE,
+    },
+    Argument {
+        name: "dictionaries",
+        value: Value::Text("FOLDER"),
+        help: "The folder of such files [env: SEGMENT_DICTIONARIES]",
+        conflicts: &NONE,
+        needs: &["lang"],
+    },
+];
+
+const LINE_OPTIONS: [Argument<'static>; 3] = [
+    Argument {
+        name: "strictness",
+        value: Value::OneOf(&STRICTNESSES),
+        help: "The property line-break of CSS",
+        conflicts: &NONE,
+        needs: &NONE,
+    },
+    Argument {
+        name: "word-break",
+        value: Value::OneOf(&WORD_OPTIONS),
+        help: "The property word-break of CSS",
+        conflicts: &NONE,
+        needs: &NONE,
+    },
+    Argument {
+        name: "lang",
+        value: Value::Text("LANGUAGE"),
+        help: "The language of the text, as ja or ja-JP",
+        conflicts: &NONE,
+        needs: &NONE,
+    },
+];
+
+const DICTIONARIES: [Argument<'static>; 3] = [
+    Argument {
+        name: "dictionary",
+        value: Value::Texts("FILE"),
+        help: "A file of words, one a line, that cut its script; may be given for each script",
+        conflicts: &NONE,
+        needs: &["script"],
+    },
+    Argument {
+        name: "script",
+        value: Value::EachOf(&SCRIPTS),
+        help: "The script of that dictionary",
+        conflicts: &NONE,
+        needs: &["dictionary"],
+    },
+    Argument {
+        name: "dictionaries",
+        value: Value::Text("FOLDER"),
+        help: "A folder of such files: thai.txt, lao.txt, khmer.txt, myanmar.txt and cj.txt, as many as there are [env: SEGMENT_DICTIONARIES]",
+        conflicts: &NONE,
+        needs: &NONE,
+    },
+];
+
+const RULED: [Argument<'static>; 2] = [
+    Argument {
+        name: "tokens",
+        value: Value::Nothing,
+        help: "Leave out segments that end where a rule with ! breaks",
+        conflicts: &NONE,
+        needs: &NONE,
+    },
+    Argument {
+        name: "show-machine",
+        value: Value::Nothing,
+        help: "Write the machine of the rules, a line for each of its states, and cut nothing",
+        conflicts: &["offsets", "raw", "null", "json", "count", "tokens", "file"],
+        needs: &NONE,
+    },
+];
+
+// How lines are wrapped.
+const WRAPPED: [Argument<'static>; 6] = [
+    Argument {
+        name: "width",
+        value: Value::Columns,
+        help: "The columns that a line has at most, which then don't stand before files",
+        conflicts: &NONE,
+        needs: &NONE,
+    },
+    Argument {
+        name: "tabs",
+        value: Value::Columns,
+        help: "Write spaces for each tab, up to the next multiple of so many columns [default: 8]",
+        conflicts: &NONE,
+        needs: &NONE,
+    },
+    Argument {
+        name: "join",
+        value: Value::Nothing,
+        help: "Join the lines between blank lines first, each two by a space",
+        conflicts: &NONE,
+        needs: &NONE,
+    },
+    Argument {
+        name: "balanced",
+        value: Value::Nothing,
+        help: "Leave the least ragged edge, paragraph by paragraph",
+        conflicts: &NONE,
+        needs: &NONE,
+    },
+    Argument {
+        name: "break-words",
+        value: Value::Nothing,
+        help: "Break what is wider than the columns between clusters",
+        conflicts: &NONE,
+        needs: &NONE,
+    },
+    Argument {
+        name: "by-cluster",
+        value: Value::Nothing,
+        help: "Count the columns of each cluster, and not of each character",
+        conflicts: &NONE,
+        needs: &NONE,
+    },
+];
+
+const GRAPHEME: Kind<'static> = Kind {
+    name: "grapheme",
+    about: "Writes extended grapheme clusters",
+    operand: Operand::Nothing,
+    arguments: &[&ENGINE, &WRITTEN, &JSON, &COUNTED],
+};
+
+const WORD: Kind<'static> = Kind {
+    name: "word",
+    about: "Writes words, and what stands between them",
+    operand: Operand::Nothing,
+    arguments: &[
+        &WORDS,
+        &WRITTEN,
+        &WORD_JSON,
+        &COUNTED,
+        &ENGINE,
+        &DICTIONARIES,
+    ],
+};
+
+const SENTENCE: Kind<'static> = Kind {
+    name: "sentence",
+    about: "Writes sentences",
+    operand: Operand::Nothing,
+    arguments: &[&ENGINE, &JOIN, &WRITTEN, &JSON, &COUNTED, &ABBREVIATIONS],
+};
+
+const LINE: Kind<'static> = Kind {
+    name: "line",
+    about: "Writes what stands between places where a line may end",
+    operand: Operand::Nothing,
+    arguments: &[
+        &LINE_ENGINE,
+        &WRITTEN,
+        &LINE_JSON,
+        &COUNTED,
+        &LINE_OPTIONS,
+        &DICTIONARIES,
+    ],
+};
+
+const RULES: Kind<'static> = Kind {
+    name: "rules",
+    about: "Writes what stands between places where rules of your own break",
+    operand: Operand::Rules,
+    arguments: &[&RULED, &WRITTEN, &RULES_JSON, &COUNTED],
+};
+
+const WRAP: Kind<'static> = Kind {
+    name: "wrap",
+    about: "Wraps lines to columns",
+    operand: Operand::Columns,
+    arguments: &[&WRAPPED, &LINE_OPTIONS, &DICTIONARIES],
+};
+
+/// The arguments that there are: each kind of segments is a subcommand. Where columns stand in an option, all that isn't one is a file.
+/// Fails only when out of memory.
+pub fn command_line<'a>(alloc: Global, columns: Columns) -> Result<Command<'a>, AllocError> {
+    let mut kinds = Vec::new(alloc);
+    push_first_kinds(alloc, columns, &mut kinds)?;
+    push_other_kinds(alloc, columns, &mut kinds)?;
+    Command::new(alloc, "segment")
+        .version(VERSION)
+        .about(
+            "Cuts text (UTF-8) into segments by Unicode's data or by rules of your own, and writes each on a line of its own, or wraps its lines",
+        )
+        .subcommand_required(true)
+        .subcommands(kinds)
+}
+
+// In two halves: each list that a function names is written out in its proof.
+fn push_first_kinds<'a>(
+    alloc: Global,
+    columns: Columns,
+    kinds: &mut Vec<Command<'a>>,
+) -> Result<(), AllocError> {
+    push_kind(alloc, &GRAPHEME, columns, kinds)?;
+    push_kind(alloc, &WORD, columns, kinds)?;
+    push_kind(alloc, &SENTENCE, columns, kinds)
+}
+
+fn push_other_kinds<'a>(
+    alloc: Global,
+    columns: Columns,
+    kinds: &mut Vec<Command<'a>>,
+) -> Result<(), AllocError> {
+    push_kind(alloc, &LINE, columns, kinds)?;
+    push_kind(alloc, &RULES, columns, kinds)?;
+    push_kind(alloc, &WRAP, columns, kinds)
+}
+
+fn push_kind<'a>(
+    alloc: Global,
+    kind: &Kind<'a>,
+    columns: Columns,
+    kinds: &mut Vec<Command<'a>>,
+) -> Result<(), AllocError> {
+    kinds.push(kind_command(alloc, kind, columns)?)?;
+    Ok(())
+}
+
+fn kind_command<'a>(
+    alloc: Global,
+    kind: &Kind<'a>,
+    columns: Columns,
+) -> Result<Command<'a>, AllocError> {
+    let mut arguments = Vec::new(alloc);
+    push_operands(alloc, kind.operand, columns, &mut arguments)?;
+    for list in kind.arguments {
+        push_arguments(alloc, list, &mut arguments)?;
+    }
+    Command::new(alloc, kind.name)
+        .about(kind.about)
+        .args(arguments)
+}
+
+// What stands without a name: the files, and what comes before them.
+fn push_operands<'a>(
+    alloc: Global,
+    operand: Operand,
+    columns: Columns,
+    arguments: &mut Vec<Arg<'a>>,
+) -> Result<(), AllocError> {
+    if operand == Operand::Rules {
+        arguments.push(rules_operand(alloc))?;
+    }
+    if operand == Operand::Columns && columns == Columns::InPlace {
+        arguments.push(columns_operand(alloc))?;
+    }
+    arguments.push(files_operand(alloc))?;
+    Ok(())
+}
+
+fn push_arguments<'a>(
+    alloc: Global,
+    list: &[Argument<'a>],
+    arguments: &mut Vec<Arg<'a>>,
+) -> Result<(), AllocError> {
+    for argument in list {
+        arguments.push(argument_of(alloc, argument)?)?;
+    }
+    Ok(())
+}
+
+fn argument_of<'a>(alloc: Global, argument: &Argument<'a>) -> Result<Arg<'a>, AllocError> {
+    Arg::new(alloc, argument.name)
+        .long(argument.name)
+        .action(action_of(argument.value))
+        .value_name(value_name(argument))
+        .value_parser(parser_of(argument.value))
+        .help(argument.help)
+        .requires_all(argument.needs)?
+        .conflicts_with_all(argument.conflicts)
+}
+
+fn action_of(value: Value<'_>) -> ArgAction {
+    match value {
+        Value::Nothing => ArgAction::SetTrue,
+        Value::Texts(_) | Value::EachOf(_) => ArgAction::Append,
+        Value::Text(_) | Value::Columns | Value::OneOf(_) => ArgAction::Set,
+    }
+}
+
+// What help calls the value.
+fn value_name<'a>(argument: &Argument<'a>) -> &'a str {
+    match argument.value {
+        Value::Text(name) | Value::Texts(name) => name,
+        Value::Columns => "COLUMNS",
+        Value::Nothing | Value::OneOf(_) | Value::EachOf(_) => argument.name,
+    }
+}
+
+fn parser_of<'a>(value: Value<'a>) -> ValueParser<'a> {
+    match value {
+        Value::Nothing => value_parser!(bool),
+        Value::Text(_) | Value::Texts(_) => value_parser!(String),
+        Value::Columns => value_parser!(usize),
+        Value::OneOf(words) | Value::EachOf(words) => words.into(),
+    }
+}
+
+fn files_operand<'a>(alloc: Global) -> Arg<'a> {
+    Arg::new(alloc, "file")
+        .action(ArgAction::Append)
+        .num_args(0..)
+        .value_name("FILE")
+        .help("The files, one after another; - is standard input, and so is none")
+}
+
+fn rules_operand<'a>(alloc: Global) -> Arg<'a> {
+    Arg::new(alloc, "rules")
+        .action(ArgAction::Set)
+        .required(true)
+        .value_name("RULES")
+        .help(
+            "The file of rules: symbols by their sets of code points, and where texts break between them",
+        )
+}
+
+fn columns_operand<'a>(alloc: Global) -> Arg<'a> {
+    Arg::new(alloc, "columns")
+        .action(ArgAction::Set)
+        .value_parser(value_parser!(usize))
+        .value_name("COLUMNS")
+        .help(
+            "The columns that a line has at most, which stand before files [default: 80]; a word that is no number is a file",
+        )
+}
