@@ -5,7 +5,6 @@
 #![tactic(auto)]
 
 pub mod clusters;
-pub mod devices;
 pub mod dictionaries;
 pub mod found;
 pub mod line_tables;

@@ -76,7 +76,7 @@ module _ (rules : Rules) where
           (length-map (drop 1 (find rest)) (shift (length first)) ∙ length-drop 1 (find rest))
           (counted bytes) (counted first) (counted rest) (some-boundary first)
 
-  -- those of the rest are those of its first block, so many, and those of what comes after
+  -- the rest has as many segments as its first block and what comes after it have together
   pub rest-count : PartsTexts (boundaries_by rules) 0x0A → (bytes block after : List ℕ) (n count : ℕ) → IsBlock bytes n → block ≡ take n bytes → after ≡ drop n bytes
       → count ≡ segment_count block → segment_count bytes ≡ count + segment_count after
   rest-count parts bytes block after n count is front back counts =

@@ -30,7 +30,7 @@ known_of context = (
   is_a_term context.before_close_sp,
 )
 
--- the same after one more value
+-- what is known after one more value
 abbrev pub known_after : SentenceBreak → Known → Known
 known_after value known =
     let term = if is_close value then known.3 else is_sa_term value in

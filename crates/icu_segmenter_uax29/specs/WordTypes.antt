@@ -78,7 +78,7 @@ dictionary_script Myanmar = complex.Myanmar
 dictionary_script Thai = complex.Thai
 dictionary_script _ = complex.None
 
--- that of words: Thai, Lao, Khmer and Myanmar of complex context, and Chinese or Japanese
+-- the script by which words are cut: Thai, Lao, Khmer and Myanmar of complex context, and Chinese or Japanese
 abbrev pub word_script : Character → ComplexScript
 word_script c =
     if is_complex c

@@ -88,7 +88,7 @@ pub cuts-nil : (cuts : PieceCuts) (end : ℕ) → cut_places (run_cuts cuts) (re
 cuts-nil cuts end =
     places-offsets (record { items = []; end = end }) (later_boundaries (piece_stretch cuts) []) ∙ ap offsets (text-later-nil (piece_stretch cuts) end)
 
--- those of the first piece, and then those of what is left
+-- the cuts of the first piece, and then those of what is left
 pub cuts-next : (cuts : PieceCuts) (item : Item) (items : List Item) (end : ℕ)
     → let text : Text = record { items = item ∷ items; end = end } in let run = code_points (item ∷ items) in
     cut_places (run_cuts cuts) text

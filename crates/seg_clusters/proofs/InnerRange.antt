@@ -71,7 +71,7 @@ module _ (m : Machine) (payloads : Payloads) (cover : CoverPieces (piece_cuts_by
       taken-between (worded_script m payloads.words first) (span_length m payloads.words (first ∷ rest)) first rest
       (span-some m payloads.words first rest) (span-inside m payloads.words (first ∷ rest))
 
-  -- those of the first span, and of what is left
+  -- the cuts of the first span, and of what is left
   next-between : (first : ℕ) (rest : List ℕ)
       → let left = drop (span_length m payloads.words (first ∷ rest)) (first ∷ rest) in AreBetween 0 (inner_cuts m payloads left) (length left)
       → AreBetween 0 (inner_cuts m payloads (first ∷ rest)) (length (first ∷ rest))

@@ -47,7 +47,7 @@ module _ {X : Type 0} (first : List X → Stretch) (going : HasProgress first) (
       ∙ sym (append_assoc stretch.boundaries (shift_all n (later rest)) (shift_all (length (x ∷ xs)) (later ys)))
       ∙ sym (ap (λ (found : List Boundary). found ++ shift_all (length (x ∷ xs)) (later ys)) (later-next first going x xs))
 
-  -- those of the first part, and then those of the second, so much later
+  -- later boundaries are those of the first part, and then those of the second, so much later
   pub later-joined : (xs : List X) → EndsWithin first xs ys → later (xs ++ ys) ≡ later xs ++ shift_all (length xs) (later ys)
   later-joined xs within = joined (length xs) xs (omega arith) within
 

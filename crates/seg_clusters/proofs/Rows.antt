@@ -71,7 +71,7 @@ start : List Row
 unfolding script_rows
 start = take 16 script_rows
 
--- those of Myanmar from U+A9E0 on
+-- the rows of Myanmar from U+A9E0 on
 high : List Row
 unfolding script_rows
 high = take 3 (drop 16 script_rows)

@@ -101,7 +101,7 @@ first_cut words ends rest =
     let read = read_all words rest in
     unwrap_or (longest_word words ends rest read) (end_from ends read)
 
--- the same, where the clusters are those of the code points alone
+-- the first cut of what is left, where the clusters are those of its code points alone
 abbrev pub next_cut : Words → Clusters → List ℕ → ℕ
 next_cut words clusters rest = first_cut words (offsets (clusters rest)) rest
 

@@ -73,7 +73,7 @@ inner_stretch m payloads code_points =
       boundaries = with_status 0 (but_the_last (span_cuts (boundaries_by payloads.clusters) (span_words m payloads.words code_points) (take extent code_points)));
     }
 
--- those of a list of code points, span by span
+-- the cuts inside the runs of a list of code points, span by span
 abbrev pub inner_cuts : Machine → Payloads → Cuts
 inner_cuts m payloads code_points = offsets (later_boundaries (inner_stretch m payloads) code_points)
 

@@ -54,7 +54,7 @@ pub owed-append : (words : Words) (xs ys : List (ℕ × ℕ × ℕ)) → owed wo
 owed-append words [] ys = omega arith
 owed-append words (x ∷ xs) ys = omega (arith, owed-append words xs ys)
 
--- the same first code point says nothing of the order
+-- two words that begin alike are in the order of what follows
 before-same : (code_point : ℕ) (xs ys : List ℕ) → is_before (code_point ∷ xs) (code_point ∷ ys) ≡ is_before xs ys
 before-same code_point xs ys = ap (λ b. cond b (is_before xs ys) (ltb code_point code_point)) (eq-eqb code_point code_point refl)
 

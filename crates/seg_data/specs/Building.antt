@@ -60,7 +60,7 @@ abbrev pub owed : Words → List (ℕ × ℕ × ℕ) → ℕ
 owed words [] = 0
 owed words (range ∷ ranges) = 1 + total (rests_of words range) + owed words ranges
 
--- the same of the ranges whose nodes don't stand, from one on
+-- more than the steps of the ranges from one on, whose nodes don't stand yet
 abbrev pub left : Words → List (ℕ × ℕ × ℕ) → ℕ → ℕ
 left words ranges done = owed words (drop done ranges)
 

@@ -76,7 +76,7 @@ borrowed_words dictionaries = record {
   ja = option_map (λ borrowed. words_of borrowed.now) dictionaries.ja;
 }
 
--- the same set of words, or none in both
+-- two choices have one set of words, or none in both
 abbrev pub IsSameChoice : Option Words → Option Words → Type 0
 IsSameChoice Nothing Nothing = Unit {0}
 IsSameChoice (Some words) (Some others) = IsSameSet words others

@@ -7,7 +7,7 @@ use Rattle.std.specs.declared.alloc.Global.{Global}
 abbrev pub Words : Type 0
 Words = List (List ℕ)
 
--- the same words are in both
+-- two lists have each other's words
 abbrev pub IsSameSet : Words → Words → Type 0
 IsSameSet xs ys = (word : List ℕ) → Contains xs word ↔ Contains ys word
 

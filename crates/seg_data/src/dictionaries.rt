@@ -9,15 +9,15 @@ use crate::provider::{ComplexScript, DictionaryBreakData, DictionaryCursor};
 /// The dictionaries of scripts, each if there is one.
 #[derive(Debug)]
 pub struct Dictionaries {
-    /// That of Myanmar.
+    /// The dictionary of Myanmar.
     pub my: Option<DictionaryBreakData>,
-    /// That of Khmer.
+    /// The dictionary of Khmer.
     pub km: Option<DictionaryBreakData>,
-    /// That of Lao.
+    /// The dictionary of Lao.
     pub lo: Option<DictionaryBreakData>,
-    /// That of Thai.
+    /// The dictionary of Thai.
     pub th: Option<DictionaryBreakData>,
-    /// That of Chinese and Japanese.
+    /// The dictionary of Chinese and Japanese.
     pub ja: Option<DictionaryBreakData>,
 }
 
@@ -48,7 +48,7 @@ impl Dictionaries {
         }
     }
 
-    /// The same dictionaries, borrowed.
+    /// These dictionaries, borrowed.
     pub fn as_borrowed(&self) -> DictionariesBorrowed<'_>
         ensures { borrowed_words result ≡ script_words self.now }
     {
@@ -86,15 +86,15 @@ fn fill_place(place: &mut Option<DictionaryBreakData>, found: Option<DictionaryB
 /// The dictionaries of scripts, borrowed, each if there is one.
 #[derive(Clone, Copy, Debug)]
 pub struct DictionariesBorrowed<'data> {
-    /// That of Myanmar.
+    /// The dictionary of Myanmar.
     pub my: Option<&'data DictionaryBreakData>,
-    /// That of Khmer.
+    /// The dictionary of Khmer.
     pub km: Option<&'data DictionaryBreakData>,
-    /// That of Lao.
+    /// The dictionary of Lao.
     pub lo: Option<&'data DictionaryBreakData>,
-    /// That of Thai.
+    /// The dictionary of Thai.
     pub th: Option<&'data DictionaryBreakData>,
-    /// That of Chinese and Japanese.
+    /// The dictionary of Chinese and Japanese.
     pub ja: Option<&'data DictionaryBreakData>,
 }
 

@@ -192,7 +192,7 @@ module _ (rules : TableRules Classic) where
             (chain-ends (extent_of gone us, RunBegins) (elements-chain rules all (gone, RunBegins) (omega arith) is))
             (ap (λ (elements : List UnitElement). place_at elements end) (sym ends ∙ elements-left rules gone all) ∙ elements-place rules (drop (extent_of gone us) all) end)
 
--- the same of what a call has at hand: the first unit and those after it, and those that are left after the verdicts
+-- an event of which a call has at hand the first unit and those after it, and those that are left after the verdicts
 module _ (before : UnreadItems) (rules : TableRules Classic) (same : rules ≡ rules_of Classic before) (left : UnitElement) (units later : UnitsLeft)
     (ahead : AreUnitsAhead (rules_of Classic before) before.text (Some left) units) where
   abbrev LeadsTo : Outcome UnitDetail → Type 0

@@ -33,7 +33,7 @@ abbrev pub IsAheadBy : PairTable → (ℕ → ℕ) → Text → Option ClassedIt
 IsAheadBy t class_of here None rest = here.items ≡ []
 IsAheadBy t class_of here (Some next) rest = (here ≡ text_from next rest) × HasClassBy t class_of next
 
--- the same by the rules of lines
+-- an item has its class by the rules of lines
 abbrev pub HasClass : {engine : LineEngine} → TableRules engine → ClassedItem → Type 0
 HasClass rules item = HasClassBy rules.table (line_class rules) item
 

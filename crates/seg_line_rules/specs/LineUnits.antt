@@ -124,7 +124,7 @@ elements_from rules element (item ∷ items) =
     then elements_from rules (marked_element element (line_class rules item.1)) items
     else element ∷ elements_from rules (base_of rules item) items
 
--- those of a text whose first item was read already, where there was one
+-- the elements of a text whose first item was read already, where there was one
 abbrev pub elements_after : TableRules Classic → Option UnitElement → List Item → List UnitElement
 elements_after rules None items = []
 elements_after rules (Some first) items = elements_from rules first items

@@ -176,7 +176,7 @@ module _ (rules : TableRules Seventeen) where
   to-run starts opened here (BreakAt place resume) at after turns is = cc
   to-run starts opened here (GoTo place wide) at after turns is = cc
 
--- the same of what a call has at hand: the first item, its unit, what the turn found, and what is left after it
+-- a turn of which a call has at hand the first item, its unit, what the turn found, and what is left after it
 module _ (before : UnreadItems) (rules : TableRules Seventeen) (starts opened : Bool) (one : ClassedItem) (after : Text) (from : before.text ≡ text_from one after)
     (first : Left) (result : TurnOutcome) (unit : left_seen 0 first ≡ first_unit rules starts one.code_point) (place_is : first.last_place ≡ one.place)
     (finds : FindsFrom first after result (λ unit. turn rules opened unit (code_points after.items))) where

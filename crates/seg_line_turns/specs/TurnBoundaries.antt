@@ -56,7 +56,7 @@ AreTurns cuts rules starts opened (code_point ∷ code_points) (stretch ∷ stre
 AreTurns cuts rules starts opened [] (stretch ∷ stretches) found = ⊥
 AreTurns cuts rules starts opened (code_point ∷ code_points) [] found = ⊥
 
--- the same boundaries as a function, through so many turns at most
+-- the boundaries as a function, through so many turns at most
 unfoldable pub turns_within : Cuts → TableRules Seventeen → ℕ → (starts opened : Bool) → List ℕ → List Boundary
 turns_within cuts rules zero starts opened code_points = []
 turns_within cuts rules (suc most) starts opened [] = []
@@ -76,7 +76,7 @@ turn_boundaries cuts rules code_points = start ∷ later_turns cuts rules true f
 abbrev pub turn_boundaries_of : Cuts → TableRules Seventeen → Text → List Boundary
 turn_boundaries_of cuts rules text = boundaries_in (turn_boundaries (inside cuts) rules) text
 
--- the same as a relation: that at the start, and then those of some turns, of which the first starts the text
+-- these are the boundaries: one at the start, and then those of some turns, of which the first starts the text
 abbrev pub AreTurnBoundaries : Cuts → TableRules Seventeen → List ℕ → List Boundary → Type 0
 AreTurnBoundaries cuts rules code_points found =
     (stretches : List TurnStretch) × ((later : List Boundary) × (AreTurns cuts rules true false code_points stretches later × (found ≡ start ∷ later)))

@@ -35,7 +35,7 @@ turns_of starts opened unread = record { rules = rules_of Seventeen unread; star
 abbrev pub unread_turns : Cuts → UnreadTurns → List Boundary
 unread_turns cuts unread = boundaries_in (later_turns cuts unread.rules unread.starts unread.opened) unread.text
 
--- the same text, where these boundaries are found before it
+-- what is left of a text, where these boundaries are found before it
 abbrev pub after_cuts : List ℕ → UnreadTurns → UnreadTurns
 after_cuts places unread = record unread { opened = has_none places && unread.opened }
 

@@ -50,7 +50,7 @@ AreRising (n ∷ numbers) = AreAbove n numbers × AreRising numbers
 abbrev pub IsCutAlone : List Boundary → List ℕ → Boundary → Type 0
 IsCutAlone boundaries cuts found = (found.status ≡ 0) × Contains cuts found.offset × (Contains (offsets boundaries) found.offset → ⊥)
 
--- the same as a relation: the list rises, and holds all boundaries, the cuts that stand alone, and nothing else
+-- boundaries and cuts are joined: the list rises, and holds all boundaries, the cuts that stand alone, and nothing else
 pub record IsJoin (boundaries : List Boundary) (cuts : List ℕ) (found : List Boundary) : Type 0 where
   pub rises : AreRising (offsets found)
   pub holds : (one : Boundary) → Contains found one ↔ (Contains boundaries one ⊎ IsCutAlone boundaries cuts one)
@@ -98,7 +98,7 @@ table_lines rules clusters words = record {
   payloads = record { words = words; clusters = ByClusterTable clusters None };
 }
 
--- the same by the rules of the engine 17
+-- how lines are found by the rules of the engine 17
 abbrev pub turn_lines : TableRules Seventeen → PairTable → ScriptWords → LineRules
 turn_lines rules clusters words = record {
   finder = unless_anywhere rules.style.strictness (ByTurns rules);
@@ -109,7 +109,7 @@ turn_lines rules clusters words = record {
 abbrev pub machine_lines : Machine → Machine → ScriptWords → LineRules
 machine_lines m clusters words = record { finder = ByMachine m; payloads = record { words = words; clusters = ByClusterMachine clusters } }
 
--- the same with other words of scripts
+-- these rules of lines with other words of scripts
 abbrev pub lines_with_words : LineRules → ScriptWords → LineRules
 lines_with_words rules words = record { finder = rules.finder; payloads = record { words = words; clusters = rules.payloads.clusters } }
 
@@ -139,7 +139,7 @@ line_boundaries_by rules = boundaries_with rules.finder rules.payloads
 abbrev pub line_boundaries_of : LineRules → Text → List Boundary
 line_boundaries_of rules text = boundaries_in (line_boundaries_by rules) text
 
--- the same as a relation: by turns the boundaries after the first are those of each turn; the boundaries of the machine, and the cuts inside
+-- these are the boundaries of lines: by turns those after the first are those of each turn; by a machine its own boundaries, and the cuts inside
 -- runs, span by span, are joined
 abbrev pub AreBoundariesWith : LineFinder → Payloads → List ℕ → List Boundary → Type 0
 AreBoundariesWith ByClusters payloads code_points found = AreBoundaries (first_stretch payloads.clusters) code_points found

@@ -85,7 +85,7 @@ StrayBy map replacements symbols count shift =
 abbrev pub StrayAt : Machine → ℕ → Type 0
 StrayAt m count = StrayBy m.pseudo_symbol_map m.symbol_map m.symbols count m.pseudo_symbol_shift
 
--- the same, from the parts one by one
+-- stray symbols, from the parts one by one
 pub stray-parts : (m : Machine) (t : MachineTailoring) (symbols : Table) (count shift : ℕ) (map : List (ℕ × ComplexScript)) (replacements : List Replacement) (found : Bool)
     → symbols ≡ m.symbols → count ≡ length m.transitions / length m.states → shift ≡ m.pseudo_symbol_shift → map ≡ t.pseudo_symbol_map → replacements ≡ t.symbol_map
     → (IsTrue found ↔ StrayBy map replacements symbols count shift)

@@ -7,7 +7,7 @@ use Rattle.std.proofs.lemmas.List.{length-replicate, length-append, get_or-repli
 use Rattle.std.proofs.lemmas.List.Elements.{Contains-append_left, Contains-push}
 use Rattle.seg_machine.specs.Search.{free, IsTable}
 
--- the same everywhere
+-- a list of one value reads as that value everywhere
 pub replicate-reads : {X : Type 0} (n k : ℕ) (x : X) → get_or (replicate n x) k x ≡ x
 replicate-reads n k x =
     elim (cases_lt k n) [

@@ -33,7 +33,7 @@ accepted_two_past_end =
     small ((Continue, None) ∷ (Continue, None) ∷ (Continue, None) ∷ (Accept 0, None) ∷ [])
     (255 ∷ 2 ∷ 3 ∷ 255 ∷ 1 ∷ 1 ∷ 255 ∷ 255 ∷ [])
 
--- the same, where letters lead from START to itself
+-- a machine where letters lead from START to itself
 abbrev pub accepted_from_start : Machine
 accepted_from_start =
     small ((Continue, None) ∷ (Continue, None) ∷ (Accept 0, None) ∷ [])

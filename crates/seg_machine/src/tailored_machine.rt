@@ -78,7 +78,7 @@ impl TailoredMachine {
         Ok(())
     }
 
-    /// The same machine, borrowed.
+    /// This machine, borrowed.
     pub fn as_borrowed(&self) -> TailoredMachineBorrowed<'_>
         ensures { machine_of result ≡ owned_machine self.now }
     {
@@ -184,7 +184,7 @@ impl<'data> TailoredMachineBorrowed<'data> {
         self.machine.num_lookaheads()
     }
 
-    /// The same machine without its transitions.
+    /// This machine without its transitions.
     #[inline(always)]
     pub fn parts(&self) -> MachineParts<'data>
         ensures { parts_of result ≡ without_transitions (machine_of self.now) }

@@ -101,7 +101,7 @@ module _ {s : Subject} {t : Table} {counted : ℕ} {last : Option Boundary} {fir
   pub keeps-but : (d : Configuration) → Keeps s t counted last first found (d ∷ but)
   keeps-but d = record { fit = k.fit; cells = tell-less k.cells (omega arith) (λ c on. inr on); plain = k.plain; count = k.count }
 
-  -- the same ones by another list
+  -- what holds of a list of configurations holds of another that has the same ones
   pub keeps-same : {other : List Configuration} → AreWithin s found → Same found other → Keeps s t counted last first other but
   keeps-same {other = other} within both = record {
     fit = k.fit;

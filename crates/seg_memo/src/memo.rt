@@ -110,7 +110,7 @@ impl<'data, I: Cursor, R: ReadTransitions> MemoBreakIterator<'data, I, R> {
 }
 
 impl<'data, I: Cursor, R: ReadTransitions> MemoBreakIterator<'data, I, R> {
-    /// The same, all but the transitions, which are the reader's: no boundary was given yet, the reader counts from 0 and has as
+    /// The boundaries of the text by a reader's transitions, all else being the machine's: no boundary was given yet, the reader counts from 0 and has as
     /// many states as the machine, and the machine with its transitions has no fault.
     pub fn with_reader<Other: ReadTransitions>(
         self,

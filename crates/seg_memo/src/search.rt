@@ -301,7 +301,7 @@ fn scan_plain<I: Cursor, R: ReadTransitions>(
     }
 }
 
-/// The same: the loop is compiled for machines with lookaheads and without.
+/// One scan: the loop is compiled for machines with lookaheads and without.
 #[inline(always)]
 fn scan_any<I: Cursor, R: ReadTransitions>(
     machine: &MachineParts<'_>,

@@ -192,7 +192,7 @@ module _ (pairs : PairDataBorrowed) (item : Item) (items : List Item) (end : ℕ
           run-at gone first.place (chain-ends (gone, RunBegins) is)
           (ap (λ (elements : List ItemElement). place_at elements end) (sym ends ∙ elements-drop pairs gone all) ∙ elements-place pairs (drop gone all) end)
 
--- the same of what a call has at hand: the first element, the elements after it, and the table
+-- an event of which a call has at hand the first element, the elements after it, and the table
 
 break-whole : (pairs : PairDataBorrowed) (items : List Item) (end : ℕ) (whole : List ItemElement) (class : ℕ) (after : Option ItemElement) (later : List ItemElement)
     → whole ≡ elements_of pairs items → 0 < length whole

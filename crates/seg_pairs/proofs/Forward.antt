@@ -95,7 +95,7 @@ complex-forward t first (second ∷ after) = outer (second == t.complex_property
     outer true = inner (first == t.complex_property)
     outer false = verdict-forward t first (second ∷ after)
 
--- the same of elements with these classes
+-- a verdict on classes that only reads on does so on elements with these classes
 pub on-classes : {D : Type 0} (v : List ℕ → Verdict) → IsForward v → IsForward (λ (elements : List (Element D)). v (classes_of elements))
 on-classes {D} v forward x xs = subst (λ n. TakesOf (suc n) (v (classes_of (x ∷ xs)))) (length-map xs (λ (element : Element D). element.class)) (forward x.class (classes_of xs))
 

@@ -19,7 +19,7 @@ override_of p = table_in p.overriding
 abbrev pub class_by : PairDataBorrowed → ℕ → ℕ
 class_by p code_point = class_of (pair_table_of p) (override_of p) code_point
 
--- the same of one that owns them
+-- the pair table of data that are owned
 abbrev pub owned_pair_table : PairData → PairTable
 owned_pair_table p = p.table
 

@@ -66,7 +66,7 @@ verdict t [] = unasked
 verdict t (first ∷ []) = BreakAfter 1 first
 verdict t (first ∷ second ∷ after) = first_verdict t first (first ∷ second ∷ after) (entry_of t first second)
 
--- the same where elements may be complex: a boundary stands before one after another, and two begin a run
+-- the verdict where elements may be complex: a boundary stands before one after another, and two begin a run
 unfoldable pub complex_verdict : PairTable → List ℕ → Verdict
 complex_verdict t [] = unasked
 complex_verdict t (first ∷ []) = BreakAfter 1 first
@@ -148,7 +148,7 @@ Lands (GoAfter taken) elements (steps.Go next) left = drop taken elements ≡ ne
 Lands RunBegins elements (steps.Run second) left = drop 1 elements ≡ second ∷ left
 Lands verdict elements step left = ⊥
 
--- the same, or the first two elements name a state, and the verdict is that of the walk from there
+-- the verdict is known, or the first two elements name a state, and the verdict is that of the walk from there
 abbrev pub LandsOrWalks : {D : Type 0} → (ℕ → Verdict) → Verdict → List (Element D) → Step D → List (Element D) → Type 0
 LandsOrWalks walk verdict elements (steps.Walk second state) left = (verdict ≡ walk state) × (drop 1 elements ≡ second ∷ left)
 LandsOrWalks walk verdict elements step left = Lands verdict elements step left

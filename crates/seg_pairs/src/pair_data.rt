@@ -59,7 +59,7 @@ impl PairData {
         Ok(PairData { table, overriding })
     }
 
-    /// The same, borrowed.
+    /// The table and its override, borrowed.
     pub fn as_borrowed(&self) -> PairDataBorrowed<'_>
         ensures table { pair_table_of result ≡ owned_pair_table self.now }
         ensures overriding { override_of result ≡ owned_override self.now }
@@ -114,7 +114,7 @@ impl<'data> PairDataBorrowed<'data> {
         Ok(PairDataBorrowed { table, overriding })
     }
 
-    /// The same for texts in which no item may be complex: rejected too with `StartRowKeeps`, where
+    /// A checked table for texts in which no item may be complex: rejected too with `StartRowKeeps`, where
     /// no boundary stands between the text's start and some class of code points, and
     /// `ComplexItems`, where some code points are complex; of several faults the lowest.
     pub fn try_plain(
@@ -160,7 +160,7 @@ impl<'data> PairDataBorrowed<'data> {
         self.table.property_table().get32(code_point)
     }
 
-    /// The same of an ASCII character. An override is asked out of line, so that loops stay short.
+    /// The class of an ASCII character. An override is asked out of line, so that loops stay short.
     #[inline(always)]
     pub(crate) fn ascii_class(self, character: u8) -> u8
         requires { character < 0x80 }
@@ -174,7 +174,7 @@ impl<'data> PairDataBorrowed<'data> {
         }
     }
 
-    /// The same of a code point that is mostly above ASCII.
+    /// The class of a code point that is mostly above ASCII.
     #[inline(always)]
     pub(crate) fn wide_class(self, code_point: u32) -> u8
         ensures value { result ≡ class_by self.entry code_point }

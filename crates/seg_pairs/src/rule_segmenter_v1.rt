@@ -83,7 +83,7 @@ impl<'data, I: Cursor> RuleBreakIterator<'data, I> {
         rule_status(self.rest.pairs.table(), self.class)
     }
 
-    /// The same boundaries once more, from the same one on. Takes no memory.
+    /// A second iterator over the boundaries that are left. Takes no memory.
     pub fn fork(&self) -> Self
         ensures { result ≡ self.now }
     {

@@ -104,7 +104,7 @@ impl<'data, I: Cursor> Events<'data, I> {
         self.here.up_to(self.here.place())
     }
 
-    /// The same events once more, from the same place on. Takes no memory.
+    /// A second iterator over the events that are left. Takes no memory.
     pub fn fork(&self) -> Self
         ensures { result ≡ self.now }
     {

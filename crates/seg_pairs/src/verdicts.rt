@@ -235,7 +235,7 @@ pub fn next_break<R: Verdicts, E: Elements<Detail = R::Detail>>(
     }
 }
 
-/// The same element, field by field, so that no gap between them is carried along.
+/// A copy of an element, field by field, so that no gap between them is carried along.
 #[inline(always)]
 fn rebuilt<D: Copy>(element: Element<D>) -> Element<D>
     ensures { result ≡ element }
@@ -288,7 +288,7 @@ fn walk_to<E: Elements>(
     step
 }
 
-/// The same with the elements after the one that the step has read, which are some of `rest`.
+/// A walk over the elements after the one that the step has read, which are some of `rest`.
 #[inline(never)]
 fn walk_apart<E: Elements>(
     table: &RuleBreakData,

@@ -82,7 +82,7 @@ next-end m row old new checked none left end = record {
   less = λ fast. absurd (fast refl);
 }
 
--- the same of a text that is the same
+-- an entry that comes next in a text comes next in one that equals it
 pub from-same : (m : Machine) (old first : Text) (state entry : ℕ) (new : Text) → first ≡ old → IsNextEntry m first state entry new → IsNextEntry m old state entry new
 from-same m old first state entry new same next = subst (λ (text : Text). IsNextEntry m text state entry new) same next
 

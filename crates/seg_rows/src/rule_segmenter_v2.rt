@@ -132,7 +132,7 @@ impl<'data, I: Cursor> RuleBreakIterator<'data, I> {
         Some(filled.count)
     }
 
-    /// The same boundaries once more, from the same one on. Takes no memory.
+    /// A second iterator over the boundaries that are left. Takes no memory.
     pub fn fork(&self) -> Self
         ensures { result ≡ self.now }
     {
@@ -278,7 +278,7 @@ fn scan<I: Cursor, P: Places>(
     }
 }
 
-/// The same by a machine with several lookaheads, on copies, so that what the caller has can stay in registers.
+/// A scan by a machine with several lookaheads, on copies, so that what the caller has can stay in registers.
 #[inline(always)]
 fn scan_apart<I: Cursor>(
     machine: &TailoredMachineBorrowed<'_>,
@@ -310,7 +310,7 @@ fn scan_apart<I: Cursor>(
     stood
 }
 
-/// The same by a machine with several lookaheads.
+/// A scan by a machine with several lookaheads.
 #[inline(never)]
 fn scan_with_eight<I: Cursor>(
     machine: &TailoredMachineBorrowed<'_>,
@@ -340,7 +340,7 @@ fn next_symbol<I: Cursor>(machine: &TailoredMachineBorrowed<'_>, iter: &mut I) -
     }
 }
 
-/// The same as `enter`. Most states only accept or only go on, and one byte tells that.
+/// Does what `enter` does. Most states only accept or only go on, and one byte tells that.
 #[inline(always)]
 fn pass<P: Places>(
     machine: &TailoredMachineBorrowed<'_>,

@@ -29,7 +29,7 @@ infixl 20 ◌or◌
 abbrev pub ◌or◌ : {P : Type 0} → Class P → Class P → Class P
 (a or b) p = a p || b p
 
--- those of the first that are in the second too, or that aren't
+-- the members of the first class that are in the second too, or that aren't
 infixl 30 ◌also◌
 abbrev pub ◌also◌ : {P : Type 0} → Class P → Class P → Class P
 (a also b) p = a p && b p

@@ -40,7 +40,7 @@ width [] = 1
 width ((class, Pairs) ∷ items) = suc (suc (width items))
 width (item ∷ items) = suc (width items)
 
--- those of the left pattern of each row
+-- the flags of the left pattern of each row
 unfoldable pub lives_by : List Row → List ℕ → List (List Bool)
 lives_by [] bits = []
 lives_by (row ∷ rows) [] = []

@@ -40,7 +40,7 @@ unfoldable pub flags : (List ℕ → Bool) → Pattern → List ℕ → List Boo
 flags begins pattern [] = flow (begins []) pattern (no_flags pattern) 0
 flags begins pattern (x ∷ xs) = flow (begins (x ∷ xs)) pattern (flags begins pattern xs) x
 
--- those of a left side, which may begin anywhere
+-- the flags of a left side, which may begin anywhere
 abbrev pub left_flags : Pattern → List ℕ → List Bool
 left_flags pattern xs = flags (λ past. true) pattern xs
 
@@ -48,6 +48,6 @@ abbrev pub is_nothing : List ℕ → Bool
 is_nothing [] = true
 is_nothing (x ∷ xs) = false
 
--- those of a right side, which begins at the place
+-- the flags of a right side, which begins at the place
 abbrev pub right_flags : Pattern → List ℕ → List Bool
 right_flags pattern xs = flags is_nothing pattern xs

@@ -6,7 +6,7 @@ pub struct Before<'a> {
     /// Of the left pattern of each row above that of marks, which of its rests may come next: a bit for each, the whole in the
     /// lowest.
     pub above: &'a [u32],
-    /// The same of the rows below.
+    /// Of the left pattern of each row below that of marks, which of its rests may come next, as bits.
     pub below: &'a [u32],
     /// Whether a mark would be read with what stands there.
     pub glues: bool,

@@ -48,7 +48,7 @@ fn put(entry: Entry, verdict: u8, part: Part, claim: &[Entry]) -> Option<Part>
     })
 }
 
-// The same, before entries of which nothing may be known.
+// Puts a verdict before entries of which nothing may be known.
 fn put_if(entry: Entry, verdict: u8, part: Option<Part>, claim: &[Entry]) -> Option<Part>
     ensures { (rules : RowRules) (due : OwedDue) → verdict ≡ verdict_of_entry (entry_of rules entry) → IsPart rules claim.now part due
         → IsPart rules claim.now result (put_onto (entry_of rules entry) due) }

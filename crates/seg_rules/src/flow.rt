@@ -47,7 +47,7 @@ fn either(this: bool, that: bool) -> bool
 // The longest pattern that has no more than 16 flags, whatever its items.
 const MAX_ITEMS: usize = 7;
 
-// The same, or `None` where the pattern is too long.
+// How a pattern flows, or `None` where it is too long.
 #[tactic(auto, using(crate::proofs::Bits::narrow))]
 pub(crate) fn flow_within(
     begins: bool,

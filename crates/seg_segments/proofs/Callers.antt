@@ -27,7 +27,7 @@ given-is_left left s [] (end, (last, is_last, stops)) = sym (ap left is_last ∙
 given-is_left left s (x ∷ xs) (end, (last, (next, gives, more), stops)) =
     ap (λ rest. x ∷ rest) (given-is_left left next xs (end, (last, more, stops))) ∙ sym gives
 
--- the same where the list has what `view` reads of each item
+-- what an iterator gives, where the list has what `view` reads of each item
 module _ {S A B : Type 0} (view : A → B) (left : S → List B) where
   pub read-is_left : (s : S) (given : List A) → Drains (YieldsFirstBy view left) s given → map view given ≡ left s
   read-is_left s [] (end, (last, is_last, stops)) = sym (ap left is_last ∙ stops.0)

@@ -74,7 +74,7 @@ module _ {M S : Type 0} (mark : ℕ → M) (left : S → List Boundary) where
   pub offsets-none : (s t : S) → YieldsFirst all s None t → offsets (left s) ≡ []
   offsets-none s t gives = offsets-marked (left s) ∙ ap (map (λ (one : ℕ × M). one.0)) gives.0
 
-  -- the same of what is said of boundaries, as numbers
+  -- what is said of boundaries, as numbers
   module _ (number : M → ℕ) where
     abbrev pub numbers : List Boundary → List ℕ
     numbers boundaries = map (λ (found : Boundary). number (mark found.status)) boundaries

@@ -38,7 +38,7 @@ abbrev pub AscendsTo : ℕ → List ℕ → ℕ → Type 0
 AscendsTo from [] end = from ≤ end
 AscendsTo from (place ∷ places) end = (from < place) × AscendsTo place places end
 
--- the same where there may be no `from`
+-- places rise to an end from `from` on, if there is one
 abbrev pub Ascends : Option ℕ → List ℕ → ℕ → Type 0
 Ascends (Some from) places end = AscendsTo from places end
 Ascends None [] end = Unit {0}

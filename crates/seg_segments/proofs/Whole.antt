@@ -57,7 +57,7 @@ whole text units breaks cuts = record {
   places = places (IsPlace text) units 0 breaks cuts;
 }
 
--- the same of what segments stand in
+-- the units that segments stand in, one after another
 pub joined-units : {M : Type 0} (segments : List (Segment M))
     → flat_map (λ (units : List ℕ). units) (units_of segments) ≡ flat_map (λ (segment : Segment M). segment.units) segments
 joined-units [] = refl

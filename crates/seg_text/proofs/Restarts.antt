@@ -22,7 +22,7 @@ module _ {X : Type 0} (first : List X → Stretch) (going : HasProgress first) (
       slice_get (later_boundaries first xs) k ≡ Some boundary
       → drop (suc k) (later_boundaries first xs) ≡ shift_all boundary.offset (later_boundaries first (drop boundary.offset xs))
 
-  -- those of what is left after a stretch, counted from its start
+  -- later boundaries are those of what is left after a stretch, counted from its start
   later : (n : ℕ) (xs : List X) (k : ℕ) (boundary : Boundary) → ((before : Boundary) → Restarts (drop n xs) k before)
       → slice_get (shift_all n (later_boundaries first (drop n xs))) k ≡ Some boundary
       → drop (suc k) (shift_all n (later_boundaries first (drop n xs))) ≡ shift_all boundary.offset (later_boundaries first (drop boundary.offset xs))

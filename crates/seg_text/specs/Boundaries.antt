@@ -15,7 +15,7 @@ start = boundary 0 0
 abbrev pub offsets : List Boundary → List ℕ
 offsets boundaries = map (λ (boundary : Boundary). boundary.offset) boundaries
 
--- the same boundary, and the same boundaries, so much later
+-- a boundary, and boundaries, so much later
 abbrev pub shift : ℕ → Boundary → Boundary
 shift before found = boundary (before + found.offset) found.status
 
@@ -108,7 +108,7 @@ AreLaterBoundaries first (x ∷ xs) (stretch ∷ stretches) found =
 AreLaterBoundaries first [] (stretch ∷ stretches) found = ⊥
 AreLaterBoundaries first (x ∷ xs) [] found = ⊥
 
--- the same boundaries as a function, through so many stretches at most
+-- the boundaries as a function, through so many stretches at most
 unfoldable pub later_boundaries_within : {X : Type 0} → (List X → Stretch) → ℕ → List X → List Boundary
 later_boundaries_within first zero xs = []
 later_boundaries_within first (suc most) [] = []
@@ -123,7 +123,7 @@ later_boundaries first xs = later_boundaries_within first (length xs) xs
 abbrev pub list_boundaries : {X : Type 0} → (List X → Stretch) → List X → List Boundary
 list_boundaries first xs = start ∷ later_boundaries first xs
 
--- the same as a relation: a boundary at the start, and then those of stretches that are each the first of what is left
+-- these are the boundaries: one at the start, and then those of stretches that are each the first of what is left
 abbrev pub AreBoundaries : {X : Type 0} → (List X → Stretch) → List X → List Boundary → Type 0
 AreBoundaries first xs found =
     (stretches : List Stretch) × ((later : List Boundary) × (found ≡ start ∷ later)

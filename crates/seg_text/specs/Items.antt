@@ -42,7 +42,7 @@ code_points items = map (λ (item : Item). item.1) items
 abbrev pub prefix_length : (ℕ → Bool) → Text → ℕ
 prefix_length passes text = prefix_len passes (code_points text.items)
 
--- the same items in a text that begins at a place of theirs
+-- items in a text that begins at a place of theirs
 abbrev pub shifted_back : ℕ → List Item → List Item
 shifted_back from items = map (λ (item : Item). (item.0 - from, item.1)) items
 

@@ -58,7 +58,7 @@ pub trait BoundarySource: Drop {
     fn last_status(&self) -> u8
         ensures { result ≡ (remainder self.now).status };
 
-    /// The same boundaries once more, from the same one on. Takes no memory.
+    /// A second iterator over the boundaries that are left. Takes no memory.
     fn fork(&self) -> Self
         ensures { result ≡ self.now };
 }
@@ -145,7 +145,7 @@ impl<B: BoundarySource> HintedBoundaries<B> {
         }
     }
 
-    /// The same boundaries once more, from the same one on. Takes no memory.
+    /// A second iterator over the boundaries that are left. Takes no memory.
     pub fn fork(&self) -> Self
         ensures { result ≡ self.now }
     {

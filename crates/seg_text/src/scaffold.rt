@@ -14,7 +14,7 @@ pub trait Encoding: Sealed {
     /// Whether its texts can contain scripts that need a dictionary or a model to break: those of Southeast Asia.
     const CAN_CONTAIN_SA: bool;
 
-    /// The same in clauses.
+    /// `CAN_CONTAIN_SA` in clauses.
     ghost CAN_CONTAIN_SA: { Bool };
 }
 

@@ -33,7 +33,7 @@ table_words t overriding clusters words =
 abbrev pub machine_words : Machine → PairTable → ScriptWords → WordRules
 machine_words m clusters words = record { rules = ByMachine m; payloads = record { words = words; clusters = ByTable clusters None } }
 
--- the same with other words of scripts
+-- these rules of words with other words of scripts
 abbrev pub with_words : WordRules → ScriptWords → WordRules
 with_words found words = record { rules = found.rules; payloads = record { words = words; clusters = found.payloads.clusters } }
 

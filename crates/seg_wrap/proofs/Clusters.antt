@@ -33,7 +33,7 @@ cluster-measured cs characters result width are wide is =
     let trailing : characters.is_trailing ≡ list_all is_trailing_space cs = ap (λ (extent : Extent). extent.is_trailing) are ∙ trailing-characters cs in
     is ∙ ap (λ (b : Bool). line_extent (cell width b ∷ [])) trailing ∙ ap (λ (w : ℕ). line_extent (cell w (list_all is_trailing_space cs) ∷ [])) wide
 
--- that of its characters as a str, where this has at most 128 bytes
+-- the width of a cluster is that of its characters as a str, where this has at most 128 bytes
 pub width-shown : (cs bytes : List ℕ) (width : ℕ) → IsUtf8 bytes → bytes ≡ shown_of cs → length bytes ≤ 128 → width ≡ str_width false (chars bytes)
     → width ≡ cluster_width cs
 width-shown cs bytes width is shown few wide =

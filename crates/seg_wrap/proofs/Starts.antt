@@ -46,7 +46,7 @@ after-start text counted before after given rises left cover gives = on given gi
               (cuts-from text counted (start_of text) rises (ap start_of (sym whole)) cover.1)),
         )
 
--- the same of a text that stands in some units
+-- the first step over a text that stands in some units leaves its cuts
 pub after-first : (units : List ℕ) (text : Text) (find : List ℕ → List Boundary) (before after : Remainder) (given : Option ℕ) → IsTextOf units text
     → before.left ≡ boundaries_in find text → IsCover 0 (length units) before.left → GivesNext before given after
     → (after.left ≡ drop 1 before.left) × AreCuts text after.left

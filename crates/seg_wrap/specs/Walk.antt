@@ -65,7 +65,7 @@ pub record IsFirstPiece (text : Text) (cells : List Cell) (piece : Piece) : Type
   pub measured : piece.extent ≡ line_extent cells
   pub small : piece.extent.inner_columns + 8 * start_of text ≤ 8 * piece.end
 
--- the same of a piece that is a segment
+-- a text begins with this piece, which is its first segment
 abbrev pub IsFirstSegment : Measure → Text → Piece → Type 0
 IsFirstSegment measure text piece = IsFirstPiece text (segment_at measure text piece).cells piece
 

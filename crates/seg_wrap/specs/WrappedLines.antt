@@ -21,7 +21,7 @@ abbrev pub wrapped_units : (List ℕ → Text) → Measure → LineRules → ℕ
 wrapped_units decode measure rules limit units =
     text_lines units (decode units) (wrapped_lines limit (segments_of measure (decode units) (line_boundaries_of rules (decode units))))
 
--- the same of possibly ill-formed UTF-8
+-- the wrapped lines of possibly ill-formed UTF-8
 abbrev pub wrapped_text : Measure → LineRules → ℕ → List ℕ → List TextLine
 wrapped_text measure rules limit bytes = wrapped_units utf8 measure rules limit bytes
 

@@ -8,6 +8,6 @@ use Rattle.icu_segmenter.specs.WordSets.{Words}
 abbrev pub words_in : List ℕ → List (List ℕ)
 words_in list = filter (λ word. not (length word == 0)) (map trim (lines list))
 
--- the same in code points
+-- the words of a list in code points
 abbrev pub code_points_in : List ℕ → Words
 code_points_in list = map chars (words_in list)

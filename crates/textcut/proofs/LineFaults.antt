@@ -38,7 +38,7 @@ module _ (machine : Machine) (tailorings : MachineTailorings) (options : LineBre
   pub chosen-plain : (clusters : Machine) → chosen_rules machine tailorings clusters (machine_choice options) ≡ machine_lines machine clusters no_words
   chosen-plain clusters = rw (default.0, default.1.0, default.1.1) refl
 
--- the same words of all scripts, and so of all but Chinese and Japanese
+-- scripts that have equal words have them but for Chinese and Japanese too
 pub same-without_ja : (words others : ScriptWords) → AreSameWords words others → AreSameWords (without_ja words) (without_ja others)
 same-without_ja words others same NoScript = tt
 same-without_ja words others same Myanmar = same Myanmar

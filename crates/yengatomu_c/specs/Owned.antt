@@ -21,7 +21,7 @@ owned alloc at false (Some value) = box_owns (ghosts.dealloc_token alloc) the_ro
 abbrev pub lease_owns : Ptr → the_row.Denot → Lft → Share → Fml
 lease_owns at value life share = fsep (lent_at the_row at value life) (flft life share)
 
--- the same, or nothing
+-- what is lent at a pointer, or nothing
 abbrev pub loan_owns : Ptr → Option the_row.Denot → Lft → Share → Fml
 loan_owns at None life share = ftrue
 loan_owns at (Some value) life share = lease_owns at value life share

@@ -22,7 +22,7 @@ const ASCII_LEN: usize = 128;
 pub struct ClassTable {
     ranges: Vec<(u32, u32, u8)>,
     default: u8,
-    // The same values once more, of ASCII, and of all code points by pages where the table is indexed: no part of the
+    // A copy of the values, of ASCII, and of all code points by pages where the table is indexed: no part of the
     // Model's value, nor of what `==` compares.
     ascii: [u8; ASCII_LEN],
     pages: Pages,
@@ -78,7 +78,7 @@ impl ClassTable {
         })
     }
 
-    /// The same table, in which each look-up takes two reads. `Memory`, and the table is gone, where a growth is refused.
+    /// This table with an index, by which each look-up takes two reads. `Memory`, and the table is gone, where a growth is refused.
     ///
     /// It takes some 17 KB for the 8,704 pages of 128 code points, and 128 bytes for each block of values; pages of one
     /// value share theirs (1.1 MB if none does).
@@ -122,7 +122,7 @@ impl ClassTable {
         self.ascii[character as usize]
     }
 
-    /// The same as `get32`, which asks nothing of ASCII first: for code points that are mostly above it.
+    /// Gives what `get32` does, but asks nothing of ASCII first: for code points that are mostly above it.
     #[inline(always)]
     pub fn get_wide(&self, code_point: u32) -> u8
         ensures { result ≡ value_of self.now code_point }
