@@ -102,10 +102,9 @@ fn sentences_by_scans(alloc: Global) -> Result<SentenceSegmenter, DataError>
     SentenceSegmenter::try_new_neo(machine, None, SentenceBreakOptions::default())
 }
 
-/// A segmenter of lines, by the machine of which it is proved that they are those of UAX #14, in the form of revision 55, with the
-/// properties of Unicode 18.0 (`icu_segmenter_uax14::laws::lines_follow_rules`), and the tailoring of CSS Text 3 that these options
-/// choose; or by the machine of clusters where they are `Anywhere`. It has no dictionaries: `load_dictionary` takes them. The only error
-/// is `Memory`.
+/// A segmenter of lines, with the tailoring of CSS Text 3 that these options choose. Its machine is proved to find the lines of UAX #14, in
+/// the form of revision 55, with the properties of Unicode 18.0 (`icu_segmenter_uax14::laws::lines_follow_rules`). Where the options are
+/// `Anywhere`, it is the machine of clusters. It has no dictionaries: `load_dictionary` takes them. The only error is `Memory`.
 pub fn line_segmenter(
     alloc: Global,
     options: LineBreakOptions<'_>,

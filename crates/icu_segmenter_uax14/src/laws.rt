@@ -132,10 +132,10 @@ pub fn letters_and_digits_stay()
     row_fits_by_patterns();
 }
 
-/// Law: no line breaks within a number, as `-3.14`, `$100`, `50%` or `f(2)`: between digits and what stands within numbers, before digits
-/// after a hyphen, a prefix or a suffix, and after digits before one (LB25: NU, IS, SY, HY, PR, PO; LB13, LB15d), nor between digits and
-/// brackets that aren't East Asian (LB30). A tailoring that breaks prefixes and suffixes more loosely, `loose` in Chinese and Japanese,
-/// may break after such a prefix and before such a suffix.
+/// Law: no line breaks within a number, as `-3.14`, `$100`, `50%` or `f(2)`. It doesn't between digits and what stands within numbers,
+/// before digits after a hyphen, a prefix or a suffix, and after digits before one (LB25: NU, IS, SY, HY, PR, PO; LB13, LB15d). Nor does it
+/// between digits and brackets that aren't East Asian (LB30). A tailoring that breaks prefixes and suffixes more loosely, `loose` in
+/// Chinese and Japanese, may break after such a prefix and before such a suffix.
 pub fn numbers_stay()
     ensures within { StayTogether NU (NU or IS or SY) }
     ensures before { StayTogether (HY or IS or PO or PR but LOOSE or CP_NARROW) NU }
@@ -145,9 +145,9 @@ pub fn numbers_stay()
     row_fits_by_patterns();
 }
 
-/// Law: nor does one break within a longer number, as `1,234/5`, `(12.5)%` or `$(.5`: after digits and what stands within numbers, before
-/// more of them, a prefix or a suffix, with or without a closing mark between; nor between a prefix or a suffix and the opening mark
-/// that a number follows (LB25).
+/// Law: nor does one break within a longer number, as `1,234/5`, `(12.5)%` or `$(.5`. It doesn't after digits and what stands within
+/// numbers, before more of them, a prefix or a suffix, with or without a closing mark between. Nor does it between a prefix or a suffix and
+/// the opening mark that a number follows (LB25).
 pub fn long_numbers_stay()
     ensures infixes { (tailoring : Tailoring) (before infixes after : List ℕ) (digit next : ℕ) → Is tailoring NU digit
         → All (Is tailoring (IS or SY)) infixes → Is tailoring (NU or PR or PO but LOOSE) next
@@ -176,9 +176,9 @@ pub fn quotations_stay()
 }
 
 /// Law: no line breaks before what allows a break after it, as a hyphen, nor before what may not begin a line, as a small kana (LB21: BA,
-/// HH, HY, NS), nor before an ellipsis (LB22: IN), but after spaces, what ends a line and CB (LB20); nor after what allows a break before
-/// it (LB21: BB), but before CB. Marks may follow: then `marks_change_nothing` says it. Hyphens and ellipses that a tailoring breaks more
-/// loosely aren't meant.
+/// HH, HY, NS), nor before an ellipsis (LB22: IN). It may after spaces, what ends a line and CB (LB20). Nor does one break after what
+/// allows a break before it (LB21: BB), but before CB. Marks may follow: then `marks_change_nothing` says it. Hyphens and ellipses that a
+/// tailoring breaks more loosely aren't meant.
 pub fn hyphens_stay()
     ensures before { StayTogether (no (BK or CR or LF or NL or SP or ZW or CB or CM)) (BA but LOOSE or HH but LOOSE or HY or NS or IN but LOOSE) }
     ensures after { StayTogether BB (no CB) }

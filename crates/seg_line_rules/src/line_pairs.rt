@@ -97,10 +97,10 @@ impl<'data, E: PairEngine> LinePairs<'data, E> {
     ghost use Rattle.seg_line_rules.specs.LineRules.{HasLineTableFault, line_class, is_loose_or_normal};
     ghost use Rattle.seg_line_rules.specs.LineBoundaries.{rules_by};
 
-    /// A pair table of lines, with what options say, and checked with the pair table of clusters: `ClassOutOfRange` where the
-    /// table has no class ID, and `StartRowKeeps` and `ComplexItems` by the clusters; `ComplexBelow0100` where a code
-    /// point below U+0100 is complex, and `ComplexClassNamed` where the complex class is one that has a name, for the engine 17
-    /// where it isn't SA. Of several faults it is the lowest.
+    /// A pair table of lines, with what options say, and checked with the pair table of clusters. `ClassOutOfRange`: the table has no class
+    /// ID. `StartRowKeeps` and `ComplexItems`: by the clusters. `ComplexBelow0100`: a code point below U+0100 is complex.
+    /// `ComplexClassNamed`: the complex class is one that has a name, for the engine 17 where it isn't SA. Of several faults it is the
+    /// lowest.
     pub fn try_new(
         table: &'data RuleBreakData,
         clusters: &RuleBreakData,

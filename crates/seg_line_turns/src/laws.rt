@@ -1,6 +1,6 @@
-//! Laws of the boundaries of lines by the engine 17, in lists of code points: however runs are cut, or where their cuts rise strictly to their
-//! ends. No law says that what is left of a text after a boundary has the boundaries of the whole: the start of a text and a space after an
-//! opening are seen from afar, as by the sample data in a space, a hyphen and a letter.
+//! Laws of the boundaries of lines by the engine 17, in lists of code points: however runs are cut, or where their cuts rise strictly to
+//! their ends. No law says that what is left of a text after a boundary has the boundaries of the whole. The start of a text and a space
+//! after an opening are seen from afar, as by the sample data in a space, a hyphen and a letter.
 ghost use Rattle.std.specs.Prelude.{◌≡◌, ℕ, List, length};
 ghost use Rattle.seg_text.specs.Boundaries.{IsCover, Cuts};
 ghost use Rattle.seg_line_rules.specs.LineBoundaries.{CutsCover, KeepsMarks, inside, line_boundaries, rules_by};
@@ -25,8 +25,8 @@ pub fn strict_cover()
         → IsCover 0 (length code_points) (turn_boundaries (inside cuts) rules code_points) }
 {}
 
-/// Law: no boundary but that at 0 stands before a code point of class CM, CM_EASTASIAN or ZWJ, except after one of class BK, CR, LF, NL, SP or
-/// ZW, provided that the table reads no class at the start of a text as one of these six.
+/// Law: no boundary but that at 0 stands before a code point of class CM, CM_EASTASIAN or ZWJ, except after one of class BK, CR, LF, NL, SP
+/// or ZW. The table must read no class at the start of a text as one of these six.
 pub fn mark_law(pairs: LinePairs<'_, Engine17>)
     ensures { (cuts : Cuts) → CutsCover cuts → StartsBear (rules_by pairs.entry).table → (code_points : List ℕ)
         → KeepsMarks (rules_by pairs.entry) code_points (turn_boundaries (inside cuts) (rules_by pairs.entry) code_points) }
@@ -34,10 +34,10 @@ pub fn mark_law(pairs: LinePairs<'_, Engine17>)
     pairs.table().facts();
 }
 
-/// Law: on plain texts the boundaries are those of the verdicts on units by which lines by a pair table are found, with the classes, readings,
-/// KeepAll set and lists of the engine 17: CM_EASTASIAN is glued as CM is, and the loose list looks at the last code point of the left unit.
-/// A text is plain where no code point has class IS, HY, HH, QU, QU_PI, QU_PF, SA or SA_MC_MN and no opening unit stands directly before a
-/// space.
+/// Law: on plain texts the boundaries are those of the verdicts on units by which lines by a pair table are found, with the classes,
+/// readings, KeepAll set and lists of the engine 17. There CM_EASTASIAN is glued as CM is, and the loose list looks at the last code point
+/// of the left unit. A text is plain where no code point has class IS, HY, HH, QU, QU_PI, QU_PF, SA or SA_MC_MN and no opening unit stands
+/// directly before a space.
 pub fn plain_texts()
     ensures { (cuts : Cuts) (rules : TableRules Seventeen) (code_points : List ℕ) → ArePlain rules code_points → HasNoOpening (units_of (counted_units rules code_points))
         → turn_boundaries cuts rules code_points ≡ line_boundaries cuts rules code_points }

@@ -25,10 +25,10 @@ use seg_line_rules::laws;
 use seg_line_turns::laws as turn_laws;
 use seg_text::indices::{Utf8CharIndices, Utf16Indices};
 
-/// Law: a list of code points has exactly one list of boundaries, in code points. Where clusters are found, the first is at
-/// its start, and each other one comes from the first stretch of what is left; so it is by a pair table of lines, and by the engine 17 from the first
-/// turn of what is left. By a machine of lines it is the list that rises strictly and holds the machine's boundaries, the cuts strictly inside runs where the machine has none, with status 0, and
-/// nothing else.
+/// Law: a list of code points has exactly one list of boundaries, in code points. Where clusters are found, the first is at its start, and
+/// each other one comes from the first stretch of what is left. So it is by a pair table of lines, and by the engine 17 from the first turn
+/// of what is left. By a machine of lines it is the list that rises strictly and holds the machine's boundaries, the cuts strictly inside
+/// runs where the machine has none, with status 0, and nothing else.
 pub fn boundaries_are_one(segmenter: LineSegmenterBorrowed<'_>)
     ensures { HasOneList (line_rules segmenter.entry) }
 {
@@ -62,10 +62,10 @@ pub fn equal_words()
         → line_boundaries_by (lines_with_words rules others) ≡ line_boundaries_by rules }
 {}
 
-/// Law: a text may be segmented anew from any of its boundaries, where clusters are found, where no code point of it is complex by
-/// the pair table (under `BreakAll` none is), or by a machine with no dictionary in any place: the boundaries after one of
-/// them are those of the rest taken alone, shifted, with the same statuses. By the engine 17 there is no such law: with the sample
-/// data a space, a hyphen and a letter have the boundaries 0, 1 and 3, and the rest from 1 on, taken alone, 0, 1 and 2.
+/// Law: a text may be segmented anew from any of its boundaries, where clusters are found, where no code point of it is complex by the pair
+/// table (under `BreakAll` none is), or by a machine with no dictionary in any place. The boundaries after one of them are those of the
+/// rest taken alone, shifted, with the same statuses. By the engine 17 there is no such law: with the sample data a space, a hyphen and a
+/// letter have the boundaries 0, 1 and 3, and the rest from 1 on, taken alone, 0, 1 and 2.
 pub fn restart(segmenter: LineSegmenterBorrowed<'_>)
     ensures { (code_points : List ℕ) → MayRestart (line_rules segmenter.entry).finder (line_rules segmenter.entry).payloads.words code_points
         → RestartsIn (line_boundaries_by (line_rules segmenter.entry)) code_points }
@@ -73,10 +73,10 @@ pub fn restart(segmenter: LineSegmenterBorrowed<'_>)
     let _ = segmenter;
 }
 
-/// Law: a text may be split after each code point that `resets_after` names: where the first of two texts ends with it, the
-/// boundaries of both, joined, are those of the first, and then those of the second but for its start, so much later, with the
-/// same statuses, whatever runs stand in either. So it is counted in code points, and as places in possibly ill-formed UTF-8, a
-/// `str` too, in Latin-1 and in possibly ill-formed UTF-16.
+/// Law: a text may be split after each code point that `resets_after` names. Where the first of two texts ends with it, the boundaries of
+/// both, joined, are those of the first, and then those of the second but for its start, so much later, with the same statuses, whatever
+/// runs stand in either. So it is counted in code points, and as places in possibly ill-formed UTF-8, a `str` too, in Latin-1 and in
+/// possibly ill-formed UTF-16.
 pub fn parts_behind_resets(segmenter: LineSegmenterBorrowed<'_>, code_point: char)
     ensures { LinesResetAfter (line_rules segmenter.entry) code_point → PartsTexts (line_boundaries_by (line_rules segmenter.entry)) code_point }
 {
@@ -121,7 +121,7 @@ pub fn mark_law(segmenter: LineSegmenterBorrowed<'_>)
 }
 
 /// Law: by the engine 17, under every strictness but `Anywhere`, no boundary but that at 0 stands before a code point of class CM,
-/// CM_EASTASIAN or ZWJ, except after one of class BK, CR, LF, NL, SP or ZW, provided that the table reads no class at the start of a text as one of
+/// CM_EASTASIAN or ZWJ, except after one of class BK, CR, LF, NL, SP or ZW. The table must read no class at the start of a text as one of
 /// these six.
 pub fn mark_law_17(segmenter: LineSegmenterBorrowed<'_>)
     ensures { (rules : TableRules Seventeen) → (line_rules segmenter.entry).finder ≡ ByTurns rules → StartsBear rules.table → (code_points : List ℕ)

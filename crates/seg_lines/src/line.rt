@@ -198,13 +198,12 @@ impl Drop for LineSegmenter {
 impl LineSegmenter {
     ghost use Rattle.seg_lines.specs.Lines.{HasLineRows, owned_line_rules, chosen_rules, without_ja, HasLineFault};
 
-    /// A segmenter by a pair table of lines, or, where the strictness is `Anywhere`, by that of clusters alone; by neither a
-    /// break is mandatory. A run of complex characters (those of the class `complex_property`, as the options read it) may also
-    /// be broken strictly inside, after each of its pieces of one script, until dictionaries are loaded. Of several faults that
-    /// with the lowest number: `ClassOutOfRange` where the table has no class ID, `StartRowKeeps` where no boundary stands
-    /// between the start of the text and some class of code points in clusters, `ComplexItems` where some code points are
-    /// complex in clusters, `ComplexBelow0100` where one below U+0100 is in lines, `ComplexClassNamed` where the complex
-    /// class is one that has a name. Takes no memory.
+    /// A segmenter by a pair table of lines, or, where the strictness is `Anywhere`, by that of clusters alone; by neither a break is
+    /// mandatory. A run of complex characters (those of the class `complex_property`, as the options read it) may also be broken strictly
+    /// inside, after each of its pieces of one script, until dictionaries are loaded. Of several faults the one with the lowest number is
+    /// given. `ClassOutOfRange`: the table has no class ID. `StartRowKeeps`: no boundary stands between the start of the text and some
+    /// class of code points in clusters. `ComplexItems`: some code points are complex in clusters. `ComplexBelow0100`: one below U+0100 is
+    /// in lines. `ComplexClassNamed`: the complex class is one that has a name. Takes no memory.
     pub fn try_new_for_non_complex_scripts(
         table: RuleBreakData,
         clusters: RuleBreakData,
@@ -453,11 +452,11 @@ impl<'data> LineSegmenterBorrowed<'data> {
         }
     }
 
-    /// Whether a text may be split after the code point, so that each part has the boundaries that it has alone, with
-    /// whether they are mandatory (`laws::parts_behind_resets`): a scan of the machine that reads the code point's symbol is
-    /// over there, from whatever state, and the code point has no script that has a dictionary here, so that no run goes over
-    /// it. Where clusters are found, it is so where it is of clusters. By a pair table of lines it is `false`. Takes no
-    /// memory; asks the machine for at most as many steps as it has transitions.
+    /// Whether a text may be split after the code point, so that each part has the boundaries that it has alone, with whether they are
+    /// mandatory (`laws::parts_behind_resets`). A scan of the machine that reads the code point's symbol is then over there, from whatever
+    /// state. And the code point has no script that has a dictionary here, so that no run goes over it. Where clusters are found, it is so
+    /// where it is of clusters. By a pair table of lines it is `false`. Takes no memory; asks the machine for at most as many steps as it
+    /// has transitions.
     pub fn resets_after(self, code_point: char) -> bool
         ensures { IsTrue result ↔ LinesResetAfter (line_rules self.entry) code_point }
     {

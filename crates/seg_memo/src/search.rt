@@ -228,12 +228,11 @@ fn scan_kept<I: Cursor, R: ReadTransitions>(
     (found, stood)
 }
 
-/// The pick, and where a cursor stands there; and a place: `first` is the symbol there then, and `ahead` is what is left after
-/// it. While no lookahead is named no condition holds, and what one picks later is at that name or after it. So three things
-/// need no cell: what is before the pick, since later scans begin there; a state that accepts, since a scan that reached it
-/// before had its pick there or later; and what is before the first acceptance, since a scan that has a pick finds nothing
-/// that has none. What comes after an acceptance is marked at once: nothing accepts after it, unless the pick is later and no
-/// scan reaches it again.
+/// The pick, and where a cursor stands there; and a place: `first` is the symbol there then, and `ahead` is what is left after it. While no
+/// lookahead is named no condition holds, and what one picks later is at that name or after it. So three things need no cell. What is
+/// before the pick: later scans begin there. A state that accepts: a scan that reached it before had its pick there or later. And what is
+/// before the first acceptance: a scan that has a pick finds nothing that has none. What comes after an acceptance is marked at once:
+/// nothing accepts after it, unless the pick is later and no scan reaches it again.
 #[inline(always)]
 fn scan_plain<I: Cursor, R: ReadTransitions>(
     machine: &MachineParts<'_>,

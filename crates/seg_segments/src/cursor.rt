@@ -107,9 +107,9 @@ pub trait SegmenterOf<I: Source>: Segmenter {
 /// A text with the segmenter that finds its boundaries: it answers which are near a place. Places are units from the start: bytes of
 /// UTF-8, 16-bit units of UTF-16.
 ///
-/// An answer takes no memory. It takes as long as finding the boundaries up to the one above the place, from where a search may begin:
-/// at the nearest certain place (`has_certain_places`), or behind the last line feed, where the segmenter's rules part texts there; or
-/// else at the start of the text.
+/// An answer takes no memory. It takes as long as finding the boundaries up to the one above the place, from where a search may begin. That
+/// is the nearest certain place (`has_certain_places`), or what stands behind the last line feed, where the segmenter's rules part texts
+/// there; or else the start of the text.
 #[derive(Drop)]
 pub struct BoundaryCursor<T: CursorText, S: SegmenterOf<T::Source>> {
     segmenter: S,

@@ -58,10 +58,10 @@ pub fn restart(segmenter: WordSegmenterBorrowed<'_>)
     let _ = segmenter;
 }
 
-/// Law: a text may be split after each code point that `resets_after` names: where the first of two texts ends with it, the
-/// boundaries of both, joined, are those of the first, and then those of the second but for its start, so much later, with the
-/// same statuses, whatever runs stand in either. So it is counted in code points, and as places in possibly ill-formed UTF-8, a
-/// `str` too, in Latin-1 and in possibly ill-formed UTF-16.
+/// Law: a text may be split after each code point that `resets_after` names. Where the first of two texts ends with it, the boundaries of
+/// both, joined, are those of the first, and then those of the second but for its start, so much later, with the same statuses, whatever
+/// runs stand in either. So it is counted in code points, and as places in possibly ill-formed UTF-8, a `str` too, in Latin-1 and in
+/// possibly ill-formed UTF-16.
 pub fn parts_behind_resets(segmenter: WordSegmenterBorrowed<'_>, code_point: char)
     ensures { WordsResetAfter (word_rules segmenter.entry) code_point → PartsTexts (word_boundaries_by (word_rules segmenter.entry)) code_point }
 {

@@ -311,13 +311,12 @@ impl Drop for WordSegmenter {
 impl WordSegmenter {
     ghost use Rattle.seg_words.specs.Words.{owned_word_rules, HasWordTableFault, HasWordMachineFault};
 
-    /// A segmenter by a pair table and its override, if there is one; a run of complex characters (those of the class
-    /// `complex_property`) is cut after each of its pieces of one script, until dictionaries are loaded. The pair table of
-    /// clusters says where the words of these may end. Of several faults that with the lowest number:
-    /// `ClassOutOfRange` where the override names a class that the table lacks, `StartRowKeeps` where no boundary stands
-    /// between the start of the text and some class of code points, in words or in clusters, `ComplexItems` where some
-    /// code points are complex in clusters, `ComplexBelow0100` where one below U+0100 is in words. The options change
-    /// nothing. Takes no memory.
+    /// A segmenter by a pair table and its override, if there is one; a run of complex characters (those of the class `complex_property`)
+    /// is cut after each of its pieces of one script, until dictionaries are loaded. The pair table of clusters says where the words of
+    /// these may end. Of several faults the one with the lowest number is given. `ClassOutOfRange`: the override names a class that the
+    /// table lacks. `StartRowKeeps`: no boundary stands between the start of the text and some class of code points, in words or in
+    /// clusters. `ComplexItems`: some code points are complex in clusters. `ComplexBelow0100`: one below U+0100 is in words. The options
+    /// change nothing. Takes no memory.
     pub fn try_new_for_non_complex_scripts(
         table: RuleBreakData,
         overriding: Option<RuleBreakDataOverride>,
@@ -363,12 +362,11 @@ impl WordSegmenter {
         self.dictionaries.fill(dictionaries);
     }
 
-    /// A segmenter by a state machine. Once dictionaries are loaded, a run of a script that has one (by the machine's map) is cut
-    /// by its words, which end with the clusters of the pair table, and each piece between runs is segmented by the machine as a
-    /// text of its own. Of several faults that with the lowest number: `StartRowKeeps` where no boundary stands
-    /// between the start of the text and some class of code points in clusters, `ComplexItems` where some code points are
-    /// complex in clusters, `ComplexBelow0100` where one below U+0100 has a script by the machine. The options change
-    /// nothing. Takes no memory.
+    /// A segmenter by a state machine. Once dictionaries are loaded, a run of a script that has one (by the machine's map) is cut by its
+    /// words, which end with the clusters of the pair table, and each piece between runs is segmented by the machine as a text of its own.
+    /// Of several faults the one with the lowest number is given. `StartRowKeeps`: no boundary stands between the start of the text and
+    /// some class of code points in clusters. `ComplexItems`: some code points are complex in clusters. `ComplexBelow0100`: one below
+    /// U+0100 has a script by the machine. The options change nothing. Takes no memory.
     pub fn try_new_neo_for_non_complex_scripts(
         machine: SegmenterStateMachine,
         clusters: RuleBreakData,
@@ -499,10 +497,10 @@ impl<'data> WordSegmenterBorrowed<'data> {
         })
     }
 
-    /// Whether a text may be split after the code point, so that each part has the boundaries that it has alone, with their
-    /// types (`laws::parts_behind_resets`): a scan of the machine that reads the code point's symbol is over there, from
-    /// whatever state, and the code point has no script that has a dictionary here, so that no run goes over it. By a pair
-    /// table it is `false`. Takes no memory; asks the machine for at most as many steps as it has transitions.
+    /// Whether a text may be split after the code point, so that each part has the boundaries that it has alone, with their types
+    /// (`laws::parts_behind_resets`). A scan of the machine that reads the code point's symbol is then over there, from whatever state. And
+    /// the code point has no script that has a dictionary here, so that no run goes over it. By a pair table it is `false`. Takes no
+    /// memory; asks the machine for at most as many steps as it has transitions.
     pub fn resets_after(self, code_point: char) -> bool
         ensures { IsTrue result ↔ WordsResetAfter (word_rules self.entry) code_point }
     {

@@ -5,9 +5,9 @@ ghost use Rattle.seg_balance.specs.Balanced.{line_columns};
 ghost use Rattle.seg_wrap.specs.Paragraphs.{joined, measured};
 ghost use Rattle.seg_wrap.specs.Wrapping.{Segment, HasOneWrapping, columns_of};
 
-/// Law: the wrapped lines are the one list of lines in which each line is one or more whole segments and together they
-/// are all; a line ends at each segment that is mandatory; a line of more than one segment has at most
-/// the columns; and a line that ends anywhere else than there and at the end of the text would have more with the next segment.
+/// Law: the wrapped lines are the one list of lines that keeps four rules. Each line is one or more whole segments, and together they are
+/// all. A line ends at each segment that is mandatory. A line of more than one segment has at most the columns. A line that ends anywhere
+/// else than there and at the end of the text would have more with the next segment.
 pub fn wrapped_lines_are_one()
     ensures { (limit : ℕ) (segments : List Segment) → HasOneWrapping limit segments }
 {}

@@ -46,8 +46,8 @@ use std::alloc::{AllocError, Global};
 use std::io::{ErrorKind, Read, Write};
 use std::str;
 
-/// Prints the boundaries of the text that a reader gives, or its lines, as the words ask, and returns the exit status: 0,
-/// or 1 where memory, the reader or the writer failed, or the text isn't what is asked for, or 2 where the words are no request's.
+/// Prints the boundaries of the text that a reader gives, or its lines, as the words ask. Returns the exit status: 0; 1 where memory, the
+/// reader or the writer failed, or the text isn't what is asked for; 2 where the words are no request's.
 pub fn run<I: Read, O: Write, E: Write>(
     alloc: Global,
     words: &[&str],

@@ -9,9 +9,9 @@ use crate::slot::Slot;
 use std::alloc::Global;
 use yengatomu_segmenter::abbreviations::{Refusal, load};
 
-/// Gives a segmenter of sentences the abbreviations after which sentences go on, as whole words with their full stops, if it has none yet. 0
-/// where they are loaded, 1 when out of memory, 2 where the slot holds no sentences, or has abbreviations, 3 where a word isn't UTF-8 or has a
-/// line feed; in these cases the slot is as it was.
+/// Gives a segmenter of sentences the abbreviations after which sentences go on, as whole words with their full stops, if it has none yet.
+/// Returns 0 where they are loaded. Otherwise the slot is as it was: 1 when out of memory, 2 where the slot holds no sentences, or has
+/// abbreviations, 3 where a word isn't UTF-8 or has a line feed.
 ///
 /// The boundaries of a text from one of its boundaries on, taken alone, needn't be those of the whole text any more: an abbreviation may begin
 /// before it. They are where a line begins (`laws::lines_go_on`).

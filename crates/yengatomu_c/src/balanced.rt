@@ -13,10 +13,10 @@ use icu_segmenter::wrap::Span;
 use std::alloc::{AllocError, Global};
 use yengatomu_segmenter::balanced::{lines, lines_utf16, put};
 
-/// Writes where the balanced lines of the first paragraph behind `from` end and how many columns they take, as many as both buffers have room for,
-/// and returns how many lines it has: of all lines with whole segments and room in the columns those whose right edge is the least ragged. A
-/// paragraph ends where a line must, or with the text. 0 at the end of the text, of other kinds, and where the slot is empty; SIZE_MAX when out of
-/// memory.
+/// Writes where the balanced lines of the first paragraph behind `from` end and how many columns they take, as many as both buffers have
+/// room for, and returns how many lines it has. Of all lines with whole segments and room in the columns, they are those whose right edge
+/// is the least ragged. A paragraph ends where a line must, or with the text. 0 at the end of the text, of other kinds, and where the slot
+/// is empty; SIZE_MAX when out of memory.
 #[unsafe(no_mangle)]
 pub extern "C" fn yengatomu_wrap_balanced(
     alloc: Global,

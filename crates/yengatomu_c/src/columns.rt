@@ -10,8 +10,8 @@ use crate::slot::Slot;
 use std::alloc::Global;
 use yengatomu_segmenter::columns::{Refusal, count_by_cluster};
 
-/// Has a segmenter of lines count the columns of wrapped lines by Unicode's clusters from now on, each by the width of its str, and no longer by
-/// character. 0 where it does, 1 when out of memory, 2 where the slot holds no lines; in these cases the slot is as it was.
+/// Has a segmenter of lines count the columns of wrapped lines by Unicode's clusters from now on, each by the width of its str, and no
+/// longer by character. Returns 0 where it does. Otherwise the slot is as it was: 1 when out of memory, 2 where the slot holds no lines.
 #[unsafe(no_mangle)]
 pub extern "C" fn yengatomu_count_by_cluster(alloc: Global, slot: &mut Slot) -> u32
     requires own { slot.old.handle.holds.lent ≡ false }

@@ -58,9 +58,9 @@ pub struct Found {
 /// No boundary.
 const NONE: usize = usize::MAX;
 
-/// Makes a segmenter in the place of what the slot held: of kind 0 clusters, 1 words, 2 sentences, 3 lines; of strictness 0 strict, 1 normal,
-/// 2 loose, 3 anywhere; of word option 0 normal, 1 break all, 2 keep all. 0 where it is made, 1 when out of memory, 2 where there is no
-/// such number; only lines have options.
+/// Makes a segmenter in the place of what the slot held. Kinds are 0 clusters, 1 words, 2 sentences, 3 lines. Strictness is 0 strict, 1
+/// normal, 2 loose, 3 anywhere; the word option is 0 normal, 1 break all, 2 keep all. Only lines have options. Returns 0 where it is made,
+/// 1 when out of memory, 2 where there is no such number.
 #[unsafe(no_mangle)]
 pub extern "C" fn yengatomu_open(
     alloc: Global,
@@ -94,10 +94,10 @@ pub extern "C" fn yengatomu_open(
     }
 }
 
-/// Makes a segmenter by the rules in a text, in the notation of `seg_notation`, in the place of what the slot held: boundaries of it are those
-/// of clusters, where the rules break. 0 where it is made, 1 when out of memory, 2 where the text isn't UTF-8 or its rules are wrong, 3 where
-/// the rules have no machine. Of 2 `error` is the line, from 1 on, and 0 where the text isn't UTF-8; of 3 that of a row that shows it, 0 if none
-/// does; of others 0.
+/// Makes a segmenter by the rules in a text, in the notation of `seg_notation`, in the place of what the slot held. Its boundaries are
+/// those of clusters, where the rules break. Returns 0 where it is made, 1 when out of memory, 2 where the text isn't UTF-8 or its rules
+/// are wrong, 3 where the rules have no machine. Of 2 `error` is the line, from 1 on, and 0 where the text isn't UTF-8; of 3 that of a row
+/// that shows it, 0 if none does; of others 0.
 #[unsafe(no_mangle)]
 pub extern "C" fn yengatomu_open_rules(
     alloc: Global,
@@ -340,9 +340,9 @@ pub extern "C" fn yengatomu_count_words(slot: &Slot, loan: Loan, text: &[u8]) ->
     }
 }
 
-/// Gives a segmenter of words or lines the words of a script, if it has none of that script yet: of 1 Myanmar, 2 Chinese or Japanese, 3 Khmer,
-/// 4 Lao, 5 Thai. 0 where they are loaded, 1 when out of memory, 2 where there is no such script, or the slot holds neither words nor lines,
-/// 3 where a word isn't UTF-8; in these cases the slot is as it was.
+/// Gives a segmenter of words or lines the words of a script, if it has none of that script yet. Scripts are 1 Myanmar, 2 Chinese or
+/// Japanese, 3 Khmer, 4 Lao, 5 Thai. Returns 0 where they are loaded. Otherwise the slot is as it was: 1 when out of memory, 2 where there
+/// is no such script or the slot holds neither words nor lines, 3 where a word isn't UTF-8.
 #[unsafe(no_mangle)]
 pub extern "C" fn yengatomu_load_dictionary(
     alloc: Global,

@@ -24,10 +24,10 @@ pub(crate) const ACCEPT_1: Entry = (Acceptance::Accept(1), None);
 
 pub(crate) const ACCEPT_2: Entry = (Acceptance::Accept(2), None);
 
-/// The machine of the words of UAX #29, as they are in Unicode 18.0, with their types: a boundary has status 1 where the last
-/// code point before it is a digit, 2 where it is a letter, and 0 otherwise, marks and what joins words, as the low line, aside.
-/// Thai, Lao, Khmer and Myanmar of complex context, Han, Hiragana and Katakana have their scripts, so that dictionaries can
-/// cut them. Fails only when out of memory.
+/// The machine of the words of UAX #29, as they are in Unicode 18.0, with their types. A boundary has status 1 where the last code point
+/// before it is a digit, 2 where it is a letter, and 0 otherwise. Marks and what joins words, as the low line, don't count. Thai, Lao,
+/// Khmer and Myanmar of complex context, Han, Hiragana and Katakana have their scripts, so that dictionaries can cut them. Fails only when
+/// out of memory.
 #[tactic(auto, unfolding(crate::specs::TypedWords::typed_word_machine))]
 pub fn typed_word_machine(alloc: Global) -> Result<SegmenterStateMachine, DataError>
     ensures made { IfOk result (λ m. m ≡ typed_word_machine) }

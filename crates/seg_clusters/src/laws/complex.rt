@@ -30,10 +30,10 @@ pub fn cuts_cover_runs()
     ensures any { (cuts : PieceCuts) → CoverPieces cuts → CoverRuns cuts }
 {}
 
-/// Law: a piece has exactly one list of cuts by a set of words, in code points. From the piece's start and from each cut but
-/// the last, the next one is the end of the longest word there that ends with a cluster; if there is none, the first end of
-/// a cluster that isn't before the first dead end, where code points are read that no longer word begins with; and if there
-/// is no dead end, the piece's end. The clusters are those of the piece alone.
+/// Law: a piece has exactly one list of cuts by a set of words, in code points. From the piece's start and from each cut but the last, the
+/// next one is the end of the longest word there that ends with a cluster. If there is none, it is the first end of a cluster that isn't
+/// before the first dead end, where code points are read that no longer word begins with. If there is no dead end, it is the piece's end.
+/// The clusters are those of the piece alone.
 pub fn dictionary_cuts_are_one(clusters: GraphemeClusterSegmenterBorrowed<'_>)
     ensures are { (words : Words) (piece : List ℕ)
         → AreDictionaryCuts words (boundaries_by (cluster_rules clusters.entry)) piece (dictionary_cuts words (boundaries_by (cluster_rules clusters.entry)) piece) }
@@ -44,8 +44,8 @@ pub fn dictionary_cuts_are_one(clusters: GraphemeClusterSegmenterBorrowed<'_>)
     grapheme::restart(clusters);
 }
 
-/// Law: where each piece is cut by the words of its script, or at its end alone where the script has none, the cuts rise
-/// strictly from the piece's start, where there is none, and the last is at its end; and so they do in each run.
+/// Law: where each piece is cut by the words of its script, or at its end alone where the script has none, the cuts rise strictly from the
+/// piece's start, where there is none, and the last is at its end. So they do in each run.
 pub fn dictionary_cuts_cover(clusters: GraphemeClusterSegmenterBorrowed<'_>)
     ensures pieces { (dictionaries : ComplexScript → Option Words)
         → CoverPieces (by_dictionaries dictionaries (boundaries_by (cluster_rules clusters.entry))) }
@@ -63,9 +63,9 @@ pub fn equal_words()
         → run_cuts_by (record { words = others; clusters = payloads.clusters }) ≡ run_cuts_by payloads }
 {}
 
-/// Law: the cuts strictly inside runs, where a machine tells the runs, may be split after each code point that stands in no
-/// run: where the first of two lists of code points ends with it, the cuts of both, joined, are those of the first, and then
-/// those of the second, so much later.
+/// Law: the cuts strictly inside runs, where a machine tells the runs, may be split after each code point that stands in no run. Where the
+/// first of two lists of code points ends with it, the cuts of both, joined, are those of the first, and then those of the second, so much
+/// later.
 pub fn cuts_part_outside_runs()
     ensures { (m : Machine) (payloads : Payloads) (code_point : ℕ) → IsOutsideRuns m payloads.words code_point
         → PartsCuts (inner_cuts m payloads) code_point }

@@ -54,10 +54,9 @@ pub fn cover(segmenter: SentenceSegmenterBorrowed<'_>)
     engine::cover(segmenter.engine);
 }
 
-/// Law: a text may be split after each code point that `resets_after` names: where the first of two texts ends with it, the
-/// boundaries of both, joined, are those of the first, and then those of the second but for its start, so much later, with the
-/// same statuses. So it is counted in code points, and as places in possibly ill-formed UTF-8, a `str` too, in Latin-1 and in
-/// possibly ill-formed UTF-16.
+/// Law: a text may be split after each code point that `resets_after` names. Where the first of two texts ends with it, the boundaries of
+/// both, joined, are those of the first, and then those of the second but for its start, so much later, with the same statuses. So it is
+/// counted in code points, and as places in possibly ill-formed UTF-8, a `str` too, in Latin-1 and in possibly ill-formed UTF-16.
 pub fn parts_behind_resets(segmenter: SentenceSegmenterBorrowed<'_>, code_point: char)
     ensures { ResetsAfter (sentence_rules segmenter.entry) code_point → PartsTexts (boundaries_by (sentence_rules segmenter.entry)) code_point }
 {

@@ -17,8 +17,8 @@ pub fn abbreviated_is_exact()
 {}
 
 /// Law: abbreviations change nothing at line feeds. Where a text may be split after line feeds, so that each part has the boundaries that
-/// it has alone, it may also by the boundaries that abbreviations leave: counted in code points, and as places in possibly ill-formed
-/// UTF-8, a `str` too, in Latin-1 and in possibly ill-formed UTF-16.
+/// it has alone, it may also by the boundaries that abbreviations leave. So it is of boundaries counted in code points, and of places in
+/// possibly ill-formed UTF-8, a `str` too, in Latin-1 and in possibly ill-formed UTF-16.
 pub fn parts_behind_line_feeds(
     abbreviations: &Abbreviations,
     segmenter: SentenceSegmenterBorrowed<'_>,
