@@ -153,12 +153,17 @@ fn some_moves(alloc: Global, states: usize, words: &str) -> Result<Vec<State>> {
     let (symbols, moves) = words.split_once(' ').context("no moves")?;
     let count = states.saturating_mul(usize::from(number_of(symbols)?));
     let mut transitions = vec![in alloc; 255; count]?;
+    put_moves(&mut transitions, states, moves)?;
+    Ok(transitions)
+}
+
+fn put_moves(transitions: &mut [State], states: usize, moves: &str) -> Result<()> {
     for word in moves.split_whitespace() {
         let (state, symbol, next) = cell_of(word)?;
         let place = place_in(states, symbol, state);
         *transitions.get_mut(place).context("no such transition")? = next;
     }
-    Ok(transitions)
+    Ok(())
 }
 
 // Where a column of a row stands in a table that has so many columns.

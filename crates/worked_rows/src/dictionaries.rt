@@ -54,6 +54,10 @@ pub fn thai(alloc: Global, row: Row<'_>) -> Result<DictionaryBreakData> {
 
 fn dictionary_of(alloc: Global, words: &str) -> Result<DictionaryBreakData> {
     let list = words_of(alloc, words)?;
+    dictionary_in(alloc, list.as_slice())
+}
+
+fn dictionary_in(alloc: Global, list: &[String]) -> Result<DictionaryBreakData> {
     let words: Vec<&str> = list.iter().map(|word| word.as_str()).collect(alloc)?;
     Ok(DictionaryBreakData::try_from_words(alloc, words.as_slice())?)
 }

@@ -98,9 +98,16 @@ fn run_cuts_by(
     payloads: ComplexPayloadsBorrowed<'_>,
 ) -> Result<String> {
     let text = quoted(alloc, row)?;
-    let text = StrCharIndices::new(text.as_str());
-    let cuts: Vec<usize> = RunCuts::new(payloads, text).collect(alloc)?;
-    Ok(shown_cuts(alloc, cuts.as_slice())?)
+    Ok(cuts_of(alloc, text.as_str(), payloads)?)
+}
+
+fn cuts_of(
+    alloc: Global,
+    text: &str,
+    payloads: ComplexPayloadsBorrowed<'_>,
+) -> Result<String, AllocError> {
+    let cuts: Vec<usize> = RunCuts::new(payloads, StrCharIndices::new(text)).collect(alloc)?;
+    shown_cuts(alloc, cuts.as_slice())
 }
 
 fn shown_cuts(alloc: Global, cuts: &[usize]) -> Result<String, AllocError> {

@@ -23,7 +23,17 @@ pub fn wrapped_answer(
 fn wrapped_in(alloc: Global, row: Row<'_>, wrapper: LineWrapper<'_>) -> Result<String> {
     let columns = row.number("columns")?;
     let text = quoted(alloc, row)?;
-    let lines = lines_of(alloc, wrapper, text.as_str(), columns)?;
+    same_lines(alloc, wrapper, text.as_str(), columns)
+}
+
+// The lines of a str, which are to be those of its bytes.
+fn same_lines(
+    alloc: Global,
+    wrapper: LineWrapper<'_>,
+    text: &str,
+    columns: usize,
+) -> Result<String> {
+    let lines = lines_of(alloc, wrapper, text, columns)?;
     if lines != lines_of_bytes(alloc, wrapper, text.as_bytes(), columns)? {
         bail!("other lines of the bytes");
     }
