@@ -69,12 +69,18 @@ fn agrees_in_utf16(
     expected: &[(usize, char)],
 ) -> Result<bool, AllocError> {
     let units: Vec<u16> = text.encode_utf16().collect(alloc)?;
-    let places: Vec<usize> = Utf16Indices::new(units.as_slice())
-        .map(|item| item.0)
-        .collect(alloc)?;
-    let found = segmenter.boundaries(alloc, Text::Utf16(units.as_slice()))?;
-    let found = ordinals(alloc, found.as_slice(), places.as_slice())?;
+    let found = ordinals_in_units(alloc, segmenter, units.as_slice())?;
     Ok(found.as_slice() == expected)
+}
+
+fn ordinals_in_units(
+    alloc: Global,
+    segmenter: SegmenterBorrowed<'_>,
+    units: &[u16],
+) -> Result<Found, AllocError> {
+    let places: Vec<usize> = Utf16Indices::new(units).map(|item| item.0).collect(alloc)?;
+    let found = segmenter.boundaries(alloc, Text::Utf16(units))?;
+    ordinals(alloc, found.as_slice(), places.as_slice())
 }
 
 // True also where Latin-1 hasn't the text.
@@ -85,14 +91,22 @@ fn agrees_in_latin1(
     expected: &[(usize, char)],
 ) -> Result<bool, AllocError> {
     let mut bytes = Vec::new(alloc);
-    for character in text.chars() {
-        let Ok(byte) = u8::try_from(character as u32) else {
-            return Ok(true);
-        };
-        bytes.push(byte)?;
+    if !push_latin1(text, &mut bytes)? {
+        return Ok(true);
     }
     let found = segmenter.boundaries(alloc, Text::Latin1(bytes.as_slice()))?;
     Ok(found.as_slice() == expected)
+}
+
+// Adds a text in Latin-1, unless that hasn't all its characters, and returns whether it has.
+fn push_latin1(text: &str, bytes: &mut Vec<u8>) -> Result<bool, AllocError> {
+    for character in text.chars() {
+        let Ok(byte) = u8::try_from(character as u32) else {
+            return Ok(false);
+        };
+        bytes.push(byte)?;
+    }
+    Ok(true)
 }
 
 // The ordinals of boundaries, in code points, where the items have these places.

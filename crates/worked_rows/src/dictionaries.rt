@@ -66,15 +66,20 @@ fn dictionary_in(alloc: Global, list: &[String]) -> Result<DictionaryBreakData> 
 pub fn words_of(alloc: Global, words: &str) -> Result<Vec<String>> {
     let mut list = Vec::new(alloc);
     for word in words.split_whitespace() {
-        match word {
-            "\"\"" => list.push(String::new(alloc)).map_err(AllocError::from)?,
-            "all-numbers" => push_numbers(alloc, &mut list)?,
-            _ => list
-                .push(unescaped(alloc, word)?)
-                .map_err(AllocError::from)?,
-        }
+        push_word(alloc, word, &mut list)?;
     }
     Ok(list)
+}
+
+fn push_word(alloc: Global, word: &str, list: &mut Vec<String>) -> Result<()> {
+    match word {
+        "\"\"" => list.push(String::new(alloc)).map_err(AllocError::from)?,
+        "all-numbers" => push_numbers(alloc, list)?,
+        _ => list
+            .push(unescaped(alloc, word)?)
+            .map_err(AllocError::from)?,
+    }
+    Ok(())
 }
 
 // Adds the 4,096 words of four digits of 0 to 7: the last digit changes slowest.

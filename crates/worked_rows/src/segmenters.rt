@@ -114,9 +114,14 @@ fn shown_answer(alloc: Global, segmenter: SegmenterBorrowed<'_>) -> Result<Strin
         SegmenterBorrowed::Lines(lines) => format!(in alloc; "{:?}", lines.segment_latin1(b"a"))?,
         _ => String::new(alloc),
     };
-    match shown.as_str().split_once(" { ") {
-        Some((name, _)) => name.to_owned(alloc),
-        None => Ok(shown),
+    name_in(shown.as_str()).to_owned(alloc)
+}
+
+// The name of a struct that is shown.
+fn name_in(shown: &str) -> &str {
+    match shown.split_once(" { ") {
+        Some((name, _)) => name,
+        None => shown,
     }
 }
 

@@ -4,7 +4,7 @@ use crate::row::Row;
 use crate::samples::quoted;
 use anyhow::{Result, bail};
 use bench::segmenter::SegmenterBorrowed;
-use icu_segmenter::wrap::LineWrapper;
+use icu_segmenter::wrap::{LineWrapper, WrapIterator, WrapUtf8Iterator};
 use std::alloc::{AllocError, Global};
 
 /// The wrapped lines of a `str`, which are those of its bytes: where each ends, in bytes, the columns that it takes, and `!` where it
@@ -47,19 +47,29 @@ fn lines_of(
     text: &str,
     columns: usize,
 ) -> Result<String, AllocError> {
-    let mut lines = wrapper.wrap_str(text, columns);
-    let (mut out, mut end) = (String::new(alloc), 0usize);
+    let mut out = String::new(alloc);
+    push_lines(alloc, &mut wrapper.wrap_str(text, columns), &mut out)?;
+    Ok(out)
+}
+
+// Adds the lines that come, and a question mark where one comes after the end.
+fn push_lines(
+    alloc: Global,
+    lines: &mut WrapIterator<'_, '_>,
+    out: &mut String,
+) -> Result<(), AllocError> {
+    let mut end = 0usize;
     for _ in 0..u64::MAX {
         let Some(line) = lines.next() else {
             break;
         };
         end = end.saturating_add(line.text().len());
-        push_line(alloc, &mut out, end, line.columns(), line.is_mandatory())?;
+        push_line(alloc, out, end, line.columns(), line.is_mandatory())?;
     }
     if lines.next().is_some() || lines.next().is_some() {
         out.push('?')?;
     }
-    Ok(out)
+    Ok(())
 }
 
 // The lines of bytes.
@@ -69,19 +79,28 @@ fn lines_of_bytes(
     bytes: &[u8],
     columns: usize,
 ) -> Result<String, AllocError> {
-    let mut lines = wrapper.wrap_utf8(bytes, columns);
-    let (mut out, mut end) = (String::new(alloc), 0usize);
+    let mut out = String::new(alloc);
+    push_lines_of_bytes(alloc, &mut wrapper.wrap_utf8(bytes, columns), &mut out)?;
+    Ok(out)
+}
+
+fn push_lines_of_bytes(
+    alloc: Global,
+    lines: &mut WrapUtf8Iterator<'_, '_>,
+    out: &mut String,
+) -> Result<(), AllocError> {
+    let mut end = 0usize;
     for _ in 0..u64::MAX {
         let Some(line) = lines.next() else {
             break;
         };
         end = end.saturating_add(line.bytes().len());
-        push_line(alloc, &mut out, end, line.columns(), line.is_mandatory())?;
+        push_line(alloc, out, end, line.columns(), line.is_mandatory())?;
     }
     if lines.next().is_some() || lines.next().is_some() {
         out.push('?')?;
     }
-    Ok(out)
+    Ok(())
 }
 
 // Adds a line, after a comma if there are some.
