@@ -3,9 +3,12 @@
 use crate::failure::{Failure, check};
 use bench::found::Found;
 use bench::segmenter::SegmenterBorrowed;
-use icu_segmenter::WordSegmenterBorrowed;
 use icu_segmenter::cursor::{BoundaryCursor, CursorText, SegmenterOf};
 use icu_segmenter::segments::{BreakIterator, WordBreaks};
+use icu_segmenter::{
+    GraphemeClusterSegmenterBorrowed, LineSegmenterBorrowed, SentenceSegmenterBorrowed,
+    WordSegmenterBorrowed,
+};
 
 /// A cursor over a text is to find the boundaries next to a place.
 pub fn check_near(
@@ -14,30 +17,49 @@ pub fn check_near(
     place: usize,
     found: &Found,
 ) -> Result<(), Failure> {
+    let near = neighbours(found.as_slice(), place);
     let agrees = match segmenter {
-        SegmenterBorrowed::Clusters(clusters) => agrees(
-            BoundaryCursor::new(clusters, text),
-            place,
-            found,
-        ),
-        SegmenterBorrowed::Sentences(sentences) => agrees(
-            BoundaryCursor::new(sentences, text),
-            place,
-            found,
-        ),
-        SegmenterBorrowed::Words(words) => agrees(BoundaryCursor::new(words, text), place, found),
-        SegmenterBorrowed::Lines(lines) => agrees(BoundaryCursor::new(lines, text), place, found),
+        SegmenterBorrowed::Clusters(clusters) => agree_clusters(clusters, text, place, near),
+        SegmenterBorrowed::Sentences(sentences) => agree_sentences(sentences, text, place, near),
+        SegmenterBorrowed::Words(words) => agree_words(words, text, place, near),
+        SegmenterBorrowed::Lines(lines) => agree_lines(lines, text, place, near),
     };
     check(agrees, "a cursor that doesn't agree")
 }
 
-// Whether a cursor finds the boundaries next to a place that were found.
+// A function for each kind: one that has all four takes three times as long to prove.
+fn agree_clusters(
+    clusters: GraphemeClusterSegmenterBorrowed<'_>,
+    text: &str,
+    place: usize,
+    near: Near,
+) -> bool {
+    agrees(BoundaryCursor::new(clusters, text), place, near)
+}
+
+fn agree_sentences(
+    sentences: SentenceSegmenterBorrowed<'_>,
+    text: &str,
+    place: usize,
+    near: Near,
+) -> bool {
+    agrees(BoundaryCursor::new(sentences, text), place, near)
+}
+
+fn agree_words(words: WordSegmenterBorrowed<'_>, text: &str, place: usize, near: Near) -> bool {
+    agrees(BoundaryCursor::new(words, text), place, near)
+}
+
+fn agree_lines(lines: LineSegmenterBorrowed<'_>, text: &str, place: usize, near: Near) -> bool {
+    agrees(BoundaryCursor::new(lines, text), place, near)
+}
+
+// Whether a cursor finds these boundaries next to a place.
 fn agrees<T: CursorText, S: SegmenterOf<T::Source>>(
     cursor: BoundaryCursor<T, S>,
     place: usize,
-    found: &Found,
+    near: Near,
 ) -> bool {
-    let near = neighbours(found.as_slice(), place);
     cursor.previous_boundary(place) == near.below
         && cursor.is_boundary(place) == near.is_there
         && cursor.next_boundary(place) == near.above
