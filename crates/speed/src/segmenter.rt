@@ -60,18 +60,43 @@ fn lines_in(lines: LineSegmenterBorrowed<'_>, text: Text<'_>) -> Tally {
 /// `with_memo`.
 #[inline(never)]
 pub fn memo_tally(alloc: Global, segmenter: &Segmenter, text: &[u8]) -> Result<Tally, MemoError> {
-    Ok(match segmenter {
-        Segmenter::Clusters(clusters) => {
-            tally_of(clusters.as_borrowed().segment_utf8(text).with_memo(alloc)?)
-        }
-        Segmenter::Sentences(sentences) => {
-            tally_of(sentences.as_borrowed().segment_utf8(text).with_memo(alloc)?)
-        }
-        Segmenter::Words(words) => {
-            tally_of(words.as_borrowed().segment_utf8(text).with_memo(alloc)?)
-        }
-        Segmenter::Lines(lines) => {
-            tally_of(lines.as_borrowed().segment_utf8(text).with_memo(alloc)?)
-        }
-    })
+    match segmenter {
+        Segmenter::Clusters(clusters) => memo_of_clusters(alloc, clusters.as_borrowed(), text),
+        Segmenter::Sentences(sentences) => memo_of_sentences(alloc, sentences.as_borrowed(), text),
+        Segmenter::Words(words) => memo_of_words(alloc, words.as_borrowed(), text),
+        Segmenter::Lines(lines) => memo_of_lines(alloc, lines.as_borrowed(), text),
+    }
+}
+
+// A function for each kind: one that has all four takes longer to prove.
+fn memo_of_clusters(
+    alloc: Global,
+    clusters: GraphemeClusterSegmenterBorrowed<'_>,
+    text: &[u8],
+) -> Result<Tally, MemoError> {
+    Ok(tally_of(clusters.segment_utf8(text).with_memo(alloc)?))
+}
+
+fn memo_of_sentences(
+    alloc: Global,
+    sentences: SentenceSegmenterBorrowed<'_>,
+    text: &[u8],
+) -> Result<Tally, MemoError> {
+    Ok(tally_of(sentences.segment_utf8(text).with_memo(alloc)?))
+}
+
+fn memo_of_words(
+    alloc: Global,
+    words: WordSegmenterBorrowed<'_>,
+    text: &[u8],
+) -> Result<Tally, MemoError> {
+    Ok(tally_of(words.segment_utf8(text).with_memo(alloc)?))
+}
+
+fn memo_of_lines(
+    alloc: Global,
+    lines: LineSegmenterBorrowed<'_>,
+    text: &[u8],
+) -> Result<Tally, MemoError> {
+    Ok(tally_of(lines.segment_utf8(text).with_memo(alloc)?))
 }
