@@ -6,17 +6,14 @@ use crate::samples::quoted;
 use anyhow::Result;
 use bench::found::push_word;
 use bench::segmenter::{SegmenterBorrowed, Text};
-use icu_segmenter::GraphemeClusterSegmenterBorrowed;
-use icu_segmenter::memo::{MemoBreakIterator, MemoError};
-use icu_segmenter::rule_segmenter_v2::{CountedTransitions, ReadTransitions};
+use icu_segmenter::memo::MemoBreakIterator;
+use icu_segmenter::rule_segmenter_v2::ReadTransitions;
 use icu_segmenter::scaffold::Utf8;
+use icu_segmenter::{
+    GraphemeClusterSegmenterBorrowed, LineSegmenterBorrowed, SentenceSegmenterBorrowed,
+    WordSegmenterBorrowed,
+};
 use std::alloc::{AllocError, Global};
-
-// The memo of a `str`, or why there is none.
-type Memo<'data, 's> = Result<
-    MemoBreakIterator<'data, 's, Utf8, CountedTransitions<'data>>,
-    MemoError,
->;
 
 /// The boundaries of a `str` by the memo of its iterator, of which two were asked for before.
 pub fn memo_answer(
@@ -28,25 +25,40 @@ pub fn memo_answer(
         Text::Str(text) => text,
         _ => "",
     };
-    Ok(shown_memo(alloc, memo_of(alloc, segmenter, text)?)?)
+    match segmenter {
+        SegmenterBorrowed::Clusters(clusters) => memo_of_clusters(alloc, clusters, text),
+        SegmenterBorrowed::Sentences(sentences) => memo_of_sentences(alloc, sentences, text),
+        SegmenterBorrowed::Words(words) => memo_of_words(alloc, words, text),
+        SegmenterBorrowed::Lines(lines) => memo_of_lines(alloc, lines, text),
+    }
 }
 
-fn memo_of<'data, 's>(
+// A function for each kind: one that has all four takes longer to prove.
+fn memo_of_clusters(
     alloc: Global,
-    segmenter: SegmenterBorrowed<'data>,
-    text: &'s str,
-) -> Memo<'data, 's> {
-    match segmenter {
-        SegmenterBorrowed::Clusters(clusters) => {
-            let mut clusters = clusters.segment_str(text);
-            let _ = clusters.next();
-            let _ = clusters.next();
-            clusters.with_memo(alloc)
-        }
-        SegmenterBorrowed::Sentences(sentences) => sentences.segment_str(text).with_memo(alloc),
-        SegmenterBorrowed::Words(words) => words.segment_str(text).with_memo(alloc),
-        SegmenterBorrowed::Lines(lines) => lines.segment_str(text).with_memo(alloc),
-    }
+    clusters: GraphemeClusterSegmenterBorrowed<'_>,
+    text: &str,
+) -> Result<String> {
+    let mut clusters = clusters.segment_str(text);
+    let _ = clusters.next();
+    let _ = clusters.next();
+    Ok(shown_memo(alloc, clusters.with_memo(alloc)?)?)
+}
+
+fn memo_of_sentences(
+    alloc: Global,
+    sentences: SentenceSegmenterBorrowed<'_>,
+    text: &str,
+) -> Result<String> {
+    Ok(shown_memo(alloc, sentences.segment_str(text).with_memo(alloc)?)?)
+}
+
+fn memo_of_words(alloc: Global, words: WordSegmenterBorrowed<'_>, text: &str) -> Result<String> {
+    Ok(shown_memo(alloc, words.segment_str(text).with_memo(alloc)?)?)
+}
+
+fn memo_of_lines(alloc: Global, lines: LineSegmenterBorrowed<'_>, text: &str) -> Result<String> {
+    Ok(shown_memo(alloc, lines.segment_str(text).with_memo(alloc)?)?)
 }
 
 /// What the memoised engine finds by the machine of a row.
@@ -64,6 +76,15 @@ pub fn shown_memo<'data, 's, R: ReadTransitions>(
     mut memo: MemoBreakIterator<'data, 's, Utf8, R>,
 ) -> Result<String, AllocError> {
     let mut out = String::new(alloc);
+    push_memo(alloc, &mut memo, &mut out)?;
+    Ok(out)
+}
+
+fn push_memo<'data, 's, R: ReadTransitions>(
+    alloc: Global,
+    memo: &mut MemoBreakIterator<'data, 's, Utf8, R>,
+    out: &mut String,
+) -> Result<(), AllocError> {
     if memo.lookups() > 0 {
         out.push('?')?;
     }
@@ -73,10 +94,10 @@ pub fn shown_memo<'data, 's, R: ReadTransitions>(
         };
         let (status, lookups) = (memo.status(), memo.lookups());
         let word = format!(in alloc; "{place}:{status}:{lookups}")?;
-        push_word(&mut out, word.as_str())?;
+        push_word(out, word.as_str())?;
     }
     if memo.status() > 0 || memo.next().is_some() || memo.next().is_some() {
         out.push('?')?;
     }
-    Ok(out)
+    Ok(())
 }
