@@ -8,8 +8,8 @@ use std::alloc::{AllocError, Global};
 // What follows the name of an argument.
 #[derive(Clone, Copy)]
 enum Value<'a> {
-    // Nothing: it is a flag.
-    Nothing,
+    // Nothing.
+    Flag,
     // A text, and what help calls it.
     Text(&'a str),
     // A text each time that it is given.
@@ -53,8 +53,6 @@ struct Kind<'a> {
 const VERSION: &str =
     "1.0.0\nUnicode 18.0; lines by the rules of 17.0\nProved in Rattle, logic dac8208d650f15bf";
 
-const NONE: [&str; 0] = [];
-
 const STYLES: [&str; 4] = ["offsets", "raw", "null", "json"];
 
 const ENGINES: [&str; 2] = ["neo", "classic"];
@@ -67,282 +65,120 @@ const WORD_OPTIONS: [&str; 3] = ["normal", "break-all", "keep-all"];
 
 const SCRIPTS: [&str; 5] = ["thai", "lao", "khmer", "myanmar", "cj"];
 
-const ENGINE: [Argument<'static>; 1] = [Argument {
-    name: "engine",
-    value: Value::OneOf(&ENGINES),
-    help: "A state machine, or a pair table [default: neo]",
-    conflicts: &NONE,
-    needs: &NONE,
-}];
+// A list of arguments, one a line: the name, what follows it, and what help says; then those beside which it can't be given, and without which.
+macro_rules! arguments {
+    ($($name:literal $value:ident $(($shown:expr))?: $help:literal $(, without $others:expr)? $(, with $needed:expr)?;)*) => {
+        &[$(Argument {
+            name: $name,
+            value: Value::$value $(($shown))?,
+            help: $help,
+            conflicts: arguments!(@list $($others)?),
+            needs: arguments!(@list $($needed)?),
+        }),*]
+    };
+    (@list) => { &[] };
+    (@list $list:expr) => { $list };
+}
 
-const LINE_ENGINE: [Argument<'static>; 1] = [Argument {
-    name: "engine",
-    value: Value::OneOf(&LINE_ENGINES),
-    help: "A state machine, a pair table, or a pair table by other rules [default: neo]",
-    conflicts: &NONE,
-    needs: &NONE,
-}];
+const ENGINE: &[Argument<'static>] = arguments! {
+    "engine" OneOf(&ENGINES): "A state machine, or a pair table [default: neo]";
+};
+
+const LINE_ENGINE: &[Argument<'static>] = arguments! {
+    "engine" OneOf(&LINE_ENGINES): "A state machine, a pair table, or a pair table by other rules [default: neo]";
+};
 
 // How segments are written.
-const WRITTEN: [Argument<'static>; 3] = [
-    Argument {
-        name: "offsets",
-        value: Value::Nothing,
-        help: "Write where each segment begins and ends, in bytes",
-        conflicts: &NONE,
-        needs: &NONE,
-    },
-    Argument {
-        name: "raw",
-        value: Value::Nothing,
-        help: "Write control characters and backslashes as they are, and not as escapes",
-        conflicts: &NONE,
-        needs: &NONE,
-    },
-    Argument {
-        name: "null",
-        value: Value::Nothing,
-        help: "Write segments as they are, each with a zero byte after it and no line feed",
-        conflicts: &["offsets"],
-        needs: &NONE,
-    },
-];
+const WRITTEN: &[Argument<'static>] = arguments! {
+    "offsets" Flag: "Write where each segment begins and ends, in bytes";
+    "raw" Flag: "Write control characters and backslashes as they are, and not as escapes";
+    "null" Flag: "Write segments as they are, each with a zero byte after it and no line feed", without &["offsets"];
+};
 
-const JSON: [Argument<'static>; 1] = [Argument {
-    name: "json",
-    value: Value::Nothing,
-    help: "Write a JSON object for each segment: text, begin, end",
-    conflicts: &["offsets", "raw", "null"],
-    needs: &NONE,
-}];
+const JSON: &[Argument<'static>] = arguments! {
+    "json" Flag: "Write a JSON object for each segment: text, begin, end", without &["offsets", "raw", "null"];
+};
 
-const WORD_JSON: [Argument<'static>; 1] = [Argument {
-    name: "json",
-    value: Value::Nothing,
-    help: "Write a JSON object for each segment: text, begin, end, type",
-    conflicts: &["offsets", "raw", "null"],
-    needs: &NONE,
-}];
+const WORD_JSON: &[Argument<'static>] = arguments! {
+    "json" Flag: "Write a JSON object for each segment: text, begin, end, type", without &["offsets", "raw", "null"];
+};
 
-const LINE_JSON: [Argument<'static>; 1] = [Argument {
-    name: "json",
-    value: Value::Nothing,
-    help: "Write a JSON object for each segment: text, begin, end, mandatory",
-    conflicts: &["offsets", "raw", "null"],
-    needs: &NONE,
-}];
+const LINE_JSON: &[Argument<'static>] = arguments! {
+    "json" Flag: "Write a JSON object for each segment: text, begin, end, mandatory", without &["offsets", "raw", "null"];
+};
 
-const RULES_JSON: [Argument<'static>; 1] = [Argument {
-    name: "json",
-    value: Value::Nothing,
-    help: "Write a JSON object for each segment: text, begin, end, status",
-    conflicts: &["offsets", "raw", "null"],
-    needs: &NONE,
-}];
+const RULES_JSON: &[Argument<'static>] = arguments! {
+    "json" Flag: "Write a JSON object for each segment: text, begin, end, status", without &["offsets", "raw", "null"];
+};
 
 // How many segments there are, in place of what they are.
-const COUNTED: [Argument<'static>; 3] = [
-    Argument {
-        name: "count",
-        value: Value::Nothing,
-        help: "Write how many segments there are, and no segment",
-        conflicts: &STYLES,
-        needs: &NONE,
-    },
-    Argument {
-        name: "lines",
-        value: Value::Nothing,
-        help: "With --count, write how many line feeds there are, too",
-        conflicts: &STYLES,
-        needs: &["count"],
-    },
-    Argument {
-        name: "bytes",
-        value: Value::Nothing,
-        help: "With --count, write how many bytes there are, too",
-        conflicts: &STYLES,
-        needs: &["count"],
-    },
-];
+const COUNTED: &[Argument<'static>] = arguments! {
+    "count" Flag: "Write how many segments there are, and no segment", without &STYLES;
+    "lines" Flag: "With --count, write how many line feeds there are, too", without &STYLES, with &["count"];
+    "bytes" Flag: "With --count, write how many bytes there are, too", without &STYLES, with &["count"];
+};
 
-const WORDS: [Argument<'static>; 1] = [Argument {
-    name: "words",
-    value: Value::Nothing,
-    help: "Leave out what stands between words",
-    conflicts: &NONE,
-    needs: &NONE,
-}];
+const WORDS: &[Argument<'static>] = arguments! {
+    "words" Flag: "Leave out what stands between words";
+};
 
-const JOIN: [Argument<'static>; 1] = [Argument {
-    name: "join",
-    value: Value::Nothing,
-    help: "Join the lines between blank lines first, each two by a space",
-    conflicts: &NONE,
-    needs: &NONE,
-}];
+const JOIN: &[Argument<'static>] = arguments! {
+    "join" Flag: "Join the lines between blank lines first, each two by a space";
+};
 
 // Abbreviations go with the default engine: only its texts are split after line feeds.
-const ABBREVIATIONS: [Argument<'static>; 3] = [
-    Argument {
-        name: "abbreviations",
-        value: Value::Text("FILE"),
-        help: "A file of abbreviations, one a line, after which a sentence goes on",
-        conflicts: &["lang", "engine"],
-        needs: &NONE,
-    },
-    Argument {
-        name: "lang",
-        value: Value::Text("LANGUAGE"),
-        help: "The language of the text, as en or en-GB: takes such a file from the folder, as abbreviations-en.txt",
-        conflicts: &["engine"],
-        needs: &NONE,
-    },
-    Argument {
-        name: "dictionaries",
-        value: Value::Text("FOLDER"),
-        help: "The folder of such files [env: SEGMENT_DICTIONARIES]",
-        conflicts: &NONE,
-        needs: &["lang"],
-    },
-];
+const ABBREVIATIONS: &[Argument<'static>] = arguments! {
+    "abbreviations" Text("FILE"): "A file of abbreviations, one a line, after which a sentence goes on", without &["lang", "engine"];
+    "lang" Text("LANGUAGE"): "The language of the text, as en or en-GB: takes such a file from the folder, as abbreviations-en.txt", without &["engine"];
+    "dictionaries" Text("FOLDER"): "The folder of such files [env: SEGMENT_DICTIONARIES]", with &["lang"];
+};
 
-const LINE_OPTIONS: [Argument<'static>; 3] = [
-    Argument {
-        name: "strictness",
-        value: Value::OneOf(&STRICTNESSES),
-        help: "The property line-break of CSS",
-        conflicts: &NONE,
-        needs: &NONE,
-    },
-    Argument {
-        name: "word-break",
-        value: Value::OneOf(&WORD_OPTIONS),
-        help: "The property word-break of CSS",
-        conflicts: &NONE,
-        needs: &NONE,
-    },
-    Argument {
-        name: "lang",
-        value: Value::Text("LANGUAGE"),
-        help: "The language of the text, as ja or ja-JP",
-        conflicts: &NONE,
-        needs: &NONE,
-    },
-];
+const LINE_OPTIONS: &[Argument<'static>] = arguments! {
+    "strictness" OneOf(&STRICTNESSES): "The property line-break of CSS";
+    "word-break" OneOf(&WORD_OPTIONS): "The property word-break of CSS";
+    "lang" Text("LANGUAGE"): "The language of the text, as ja or ja-JP";
+};
 
-const DICTIONARIES: [Argument<'static>; 3] = [
-    Argument {
-        name: "dictionary",
-        value: Value::Texts("FILE"),
-        help: "A file of words, one a line, that cut its script; may be given for each script",
-        conflicts: &NONE,
-        needs: &["script"],
-    },
-    Argument {
-        name: "script",
-        value: Value::EachOf(&SCRIPTS),
-        help: "The script of that dictionary",
-        conflicts: &NONE,
-        needs: &["dictionary"],
-    },
-    Argument {
-        name: "dictionaries",
-        value: Value::Text("FOLDER"),
-        help: "A folder of such files: thai.txt, lao.txt, khmer.txt, myanmar.txt and cj.txt, as many as there are [env: SEGMENT_DICTIONARIES]",
-        conflicts: &NONE,
-        needs: &NONE,
-    },
-];
+const DICTIONARIES: &[Argument<'static>] = arguments! {
+    "dictionary" Texts("FILE"): "A file of words, one a line, that cut its script; may be given for each script", with &["script"];
+    "script" EachOf(&SCRIPTS): "The script of that dictionary", with &["dictionary"];
+    "dictionaries" Text("FOLDER"): "A folder of such files: thai.txt, lao.txt, khmer.txt, myanmar.txt and cj.txt, as many as there are [env: SEGMENT_DICTIONARIES]";
+};
 
-const RULED: [Argument<'static>; 2] = [
-    Argument {
-        name: "tokens",
-        value: Value::Nothing,
-        help: "Leave out segments that end where a rule with ! breaks",
-        conflicts: &NONE,
-        needs: &NONE,
-    },
-    Argument {
-        name: "show-machine",
-        value: Value::Nothing,
-        help: "Write the machine of the rules, a line for each of its states, and cut nothing",
-        conflicts: &["offsets", "raw", "null", "json", "count", "tokens", "file"],
-        needs: &NONE,
-    },
-];
+const RULED: &[Argument<'static>] = arguments! {
+    "tokens" Flag: "Leave out segments that end where a rule with ! breaks";
+    "show-machine" Flag: "Write the machine of the rules, a line for each of its states, and cut nothing", without &["offsets", "raw", "null", "json", "count", "tokens", "file"];
+};
 
 // How lines are wrapped.
-const WRAPPED: [Argument<'static>; 6] = [
-    Argument {
-        name: "width",
-        value: Value::Columns,
-        help: "The columns that a line has at most, which then don't stand before files",
-        conflicts: &NONE,
-        needs: &NONE,
-    },
-    Argument {
-        name: "tabs",
-        value: Value::Columns,
-        help: "Write spaces for each tab, up to the next multiple of so many columns [default: 8]",
-        conflicts: &NONE,
-        needs: &NONE,
-    },
-    Argument {
-        name: "join",
-        value: Value::Nothing,
-        help: "Join the lines between blank lines first, each two by a space",
-        conflicts: &NONE,
-        needs: &NONE,
-    },
-    Argument {
-        name: "balanced",
-        value: Value::Nothing,
-        help: "Leave the least ragged edge, paragraph by paragraph",
-        conflicts: &NONE,
-        needs: &NONE,
-    },
-    Argument {
-        name: "break-words",
-        value: Value::Nothing,
-        help: "Break what is wider than the columns between clusters",
-        conflicts: &NONE,
-        needs: &NONE,
-    },
-    Argument {
-        name: "by-cluster",
-        value: Value::Nothing,
-        help: "Count the columns of each cluster, and not of each character",
-        conflicts: &NONE,
-        needs: &NONE,
-    },
-];
+const WRAPPED: &[Argument<'static>] = arguments! {
+    "width" Columns: "The columns that a line has at most, which then don't stand before files";
+    "tabs" Columns: "Write spaces for each tab, up to the next multiple of so many columns [default: 8]";
+    "join" Flag: "Join the lines between blank lines first, each two by a space";
+    "balanced" Flag: "Leave the least ragged edge, paragraph by paragraph";
+    "break-words" Flag: "Break what is wider than the columns between clusters";
+    "by-cluster" Flag: "Count the columns of each cluster, and not of each character";
+};
 
 const GRAPHEME: Kind<'static> = Kind {
     name: "grapheme",
     about: "Writes extended grapheme clusters",
     operand: Operand::Nothing,
-    arguments: &[&ENGINE, &WRITTEN, &JSON, &COUNTED],
+    arguments: &[ENGINE, WRITTEN, JSON, COUNTED],
 };
 
 const WORD: Kind<'static> = Kind {
     name: "word",
     about: "Writes words, and what stands between them",
     operand: Operand::Nothing,
-    arguments: &[
-        &WORDS,
-        &WRITTEN,
-        &WORD_JSON,
-        &COUNTED,
-        &ENGINE,
-        &DICTIONARIES,
-    ],
+    arguments: &[WORDS, WRITTEN, WORD_JSON, COUNTED, ENGINE, DICTIONARIES],
 };
 
 const SENTENCE: Kind<'static> = Kind {
     name: "sentence",
     about: "Writes sentences",
     operand: Operand::Nothing,
-    arguments: &[&ENGINE, &JOIN, &WRITTEN, &JSON, &COUNTED, &ABBREVIATIONS],
+    arguments: &[ENGINE, JOIN, WRITTEN, JSON, COUNTED, ABBREVIATIONS],
 };
 
 const LINE: Kind<'static> = Kind {
@@ -350,12 +186,12 @@ const LINE: Kind<'static> = Kind {
     about: "Writes what stands between places where a line may end",
     operand: Operand::Nothing,
     arguments: &[
-        &LINE_ENGINE,
-        &WRITTEN,
-        &LINE_JSON,
-        &COUNTED,
-        &LINE_OPTIONS,
-        &DICTIONARIES,
+        LINE_ENGINE,
+        WRITTEN,
+        LINE_JSON,
+        COUNTED,
+        LINE_OPTIONS,
+        DICTIONARIES,
     ],
 };
 
@@ -363,14 +199,14 @@ const RULES: Kind<'static> = Kind {
     name: "rules",
     about: "Writes what stands between places where rules of your own break",
     operand: Operand::Rules,
-    arguments: &[&RULED, &WRITTEN, &RULES_JSON, &COUNTED],
+    arguments: &[RULED, WRITTEN, RULES_JSON, COUNTED],
 };
 
 const WRAP: Kind<'static> = Kind {
     name: "wrap",
     about: "Wraps lines to columns",
     operand: Operand::Columns,
-    arguments: &[&WRAPPED, &LINE_OPTIONS, &DICTIONARIES],
+    arguments: &[WRAPPED, LINE_OPTIONS, DICTIONARIES],
 };
 
 /// The arguments that there are: each kind of segments is a subcommand. Where columns stand in an option, all that isn't one is a file.
@@ -475,7 +311,7 @@ fn argument_of<'a>(alloc: Global, argument: &Argument<'a>) -> Result<Arg<'a>, Al
 
 fn action_of(value: Value<'_>) -> ArgAction {
     match value {
-        Value::Nothing => ArgAction::SetTrue,
+        Value::Flag => ArgAction::SetTrue,
         Value::Texts(_) | Value::EachOf(_) => ArgAction::Append,
         Value::Text(_) | Value::Columns | Value::OneOf(_) => ArgAction::Set,
     }
@@ -486,13 +322,13 @@ fn value_name<'a>(argument: &Argument<'a>) -> &'a str {
     match argument.value {
         Value::Text(name) | Value::Texts(name) => name,
         Value::Columns => "COLUMNS",
-        Value::Nothing | Value::OneOf(_) | Value::EachOf(_) => argument.name,
+        Value::Flag | Value::OneOf(_) | Value::EachOf(_) => argument.name,
     }
 }
 
 fn parser_of<'a>(value: Value<'a>) -> ValueParser<'a> {
     match value {
-        Value::Nothing => value_parser!(bool),
+        Value::Flag => value_parser!(bool),
         Value::Text(_) | Value::Texts(_) => value_parser!(String),
         Value::Columns => value_parser!(usize),
         Value::OneOf(words) | Value::EachOf(words) => words.into(),

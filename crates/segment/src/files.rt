@@ -21,9 +21,10 @@ struct Totals {
     has_failed: bool,
 }
 
-/// Does a job to each file in turn, or to standard input where none is named, and where segments are counted in more than one file writes
-/// how many there were in all, and the numbers beside. What can't be read, and what has no memoised engine, is complained of, and the next file comes. Out of memory
-/// it ends, and blames no file. The status is 1 where there was such a file, not all was written, or when out of memory; a pipe that nobody reads ends all quietly.
+/// Does a job to each file in turn, or to standard input where none is named. Where segments are counted in more than one file, it writes
+/// how many there were in all, and the numbers beside. What can't be read is complained of, and the next file comes. Out of memory it ends,
+/// and blames no file. The status is 1 where there was such a file, not all was written, or when out of memory. A pipe that nobody reads
+/// ends all quietly.
 pub fn run_all(rt: &HostRuntime, job: &Job, names: &[&str]) -> ExitCode {
     match try_run_all(rt, job, names) {
         Ok(totals) if totals.has_failed => ExitCode::FAILURE,
