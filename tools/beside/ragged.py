@@ -1,7 +1,7 @@
 #!/usr/bin/env python3
-"""ragged.py: how ragged the right edge is by `segment wrap`, first fit and balanced, and by fmt, fold and Python's textwrap, and how long each takes.
+"""ragged.py: how ragged the right edge is by `segment wrap`, first fit and balanced, and by fmt, fold, Python's textwrap and Rust's, and how long each takes.
 
-    tools/beside/ragged.py PROGRAM [FILE]      as: ragged.py crates/segment/out/segment; FILE: none is crates/speed/data/english.txt
+    tools/beside/ragged.py PROGRAM [TEXTWRAP]      as: ragged.py crates/segment/out/segment; TEXTWRAP: what textwrap/Cargo.toml builds
 
 1,000 paragraphs of the text's sentences are wrapped to 72 columns, each a line before. What counts is the sum of the squares of the columns that all lines
 but each paragraph's last leave free; and the nanoseconds a byte of the fastest of three runs, each with its start, which textwrap's hasn't. The columns are
@@ -43,8 +43,8 @@ def by_program(words, path):
 
 
 def main(words):
-    program, file = words[0], words[1] if len(words) > 1 else f"{ROOT}/crates/speed/data/english.txt"
-    with open(file, encoding="utf-8") as it:
+    program, textwrap_of_rust = words[0], words[1:]
+    with open(f"{ROOT}/crates/speed/data/english.txt", encoding="utf-8") as it:
         paragraphs = paragraphs_of(it.read())
     with tempfile.NamedTemporaryFile("w", encoding="utf-8", suffix=".txt") as text:
         text.write("".join(f"{it}\n\n" for it in paragraphs))
@@ -57,6 +57,8 @@ def main(words):
             f"fold -s -w {columns}": by_program(["fold", "-s", "-w", columns], text.name),
             "Python's textwrap": lambda: "".join(textwrap.fill(it, COLUMNS) + "\n\n" for it in paragraphs),
         }
+        for path in textwrap_of_rust:
+            ways |= {f"Rust's textwrap, {fit}": by_program([path, fit, columns], text.name) for fit in ("first-fit", "optimal-fit")}
         for name, run in ways.items():
             seconds = []
             for _ in range(3):

@@ -84,7 +84,7 @@ pub mod memo {
 pub mod wrap {
     pub use seg_wrap::wrap::balanced::BalancedParagraphs;
     pub use seg_wrap::wrap::{
-        LineWrapper, Span, WrapError, WrapIterator, WrapUtf8Iterator, WrapUtf16Iterator,
+        LineWrapper, Room, Span, WrapError, WrapIterator, WrapUtf8Iterator, WrapUtf16Iterator,
         WrappedLine, WrappedUtf8Line, WrappedUtf16Line, utf8_columns,
     };
 }

@@ -65,10 +65,10 @@ end-within whole before after span rises is gives =
 
 pub lines-next : (units : List ℕ) (before after : LinesLeft) (span : Span) → GivesLine before (Some span) after
     → text_lines units before.text before.lines
-    ≡ record { units = between span.start span.end units; columns = span.columns; is_mandatory = span.is_mandatory } ∷ text_lines units after.text after.lines
+    ≡ record { units = between span.start span.end units; columns = span.columns; is_first = span.is_first; is_mandatory = span.is_mandatory } ∷ text_lines units after.text after.lines
 unfolding text_lines
-lines-next units before after span (line, (lines, (rest, (start, (end, (columns, mark)))))) =
-    rw (lines, start, end, columns, mark, rest) refl
+lines-next units before after span (line, (lines, (rest, (start, (end, (columns, (first, mark))))))) =
+    rw (lines, start, end, columns, first, mark, rest) refl
 
 pub lines-none : (units : List ℕ) (before after : LinesLeft) → GivesLine before None after
     → (text_lines units before.text before.lines ≡ []) × (text_lines units after.text after.lines ≡ [])

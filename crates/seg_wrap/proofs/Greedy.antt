@@ -3,7 +3,8 @@ use Rattle.std.proofs.Common.{◌≡◌, ℕ, ◌<◌, ◌≤◌, Bool, true, fa
 use Rattle.std.specs.Prelude.{if◌then◌else◌, ◌||◌}
 use Rattle.std.proofs.lemmas.Bool.{ltb-false, lt-ltb, ltb-true, le-ltb, true≢false}
 use Rattle.std.proofs.lemmas.List.{append_assoc, append-nil}
-use Rattle.seg_wrap.specs.Wrapping.{Segment, as_one, columns_of, line_of, lines_from, ends_before, AreLines, HasOneWrapping, IsLine, IsUnbroken, Parts, lines_of, parts_of, whole, whole_of}
+use Rattle.seg_wrap.specs.declared.wrap.wrapping.Room.{Room}
+use Rattle.seg_wrap.specs.Wrapping.{Segment, as_one, columns_in, columns_of, line_of, lines_from, ends_before, AreLines, HasOneWrapping, IsLine, IsUnbroken, Parts, lines_of, parts_of, whole, whole_of}
 use Rattle.seg_wrap.proofs.Extents.{columns-grow}
 
 -- equal lists begin alike, and go on alike
@@ -24,11 +25,11 @@ with_next line next = record { first = line.first; others = line.others ++ next 
 abbrev pub alone : Segment → Parts
 alone first = record { first = first; others = [] }
 
-unfoldable pub parts_from : ℕ → Parts → List Segment → List Parts
-parts_from limit line [] = line ∷ []
-parts_from limit line (next ∷ segments) =
-    if ends_before limit (whole_of line) next then line ∷ parts_from limit (alone next) segments
-    else parts_from limit (with_next line next) segments
+unfoldable pub parts_from : Room → Bool → Parts → List Segment → List Parts
+parts_from room is_first line [] = line ∷ []
+parts_from room is_first line (next ∷ segments) =
+    if ends_before (columns_in room is_first) (whole_of line) next then line ∷ parts_from room (whole_of line).is_mandatory (alone next) segments
+    else parts_from room is_first (with_next line next) segments
 
 whole-next : (first : Segment) (others : List Segment) (next : Segment) → whole first (others ++ next ∷ []) ≡ as_one (whole first others) next
 unfolding whole
@@ -79,47 +80,49 @@ goes-on limit line next goes fits =
 
 -- ---- what the greedy lines are
 
-pub parts-wrapped : (limit : ℕ) (line : Parts) (segments : List Segment) → lines_of (parts_from limit line segments) ≡ lines_from limit (whole_of line) segments
-unfolding parts_from lines_from whole
-parts-wrapped limit line [] = refl
-parts-wrapped limit line (next ∷ segments) =
-    on (ends_before limit (whole_of line) next) (parts-wrapped limit (alone next) segments) (parts-wrapped limit (with_next line next) segments)
+pub parts-wrapped : (room : Room) (is_first : Bool) (line : Parts) (segments : List Segment)
+    → lines_of is_first (parts_from room is_first line segments) ≡ lines_from room is_first (whole_of line) segments
+unfolding parts_from lines_from lines_of whole
+parts-wrapped room is_first line [] = refl
+parts-wrapped room is_first line (next ∷ segments) =
+    on (ends_before (columns_in room is_first) (whole_of line) next) (parts-wrapped room (whole_of line).is_mandatory (alone next) segments)
+    (parts-wrapped room is_first (with_next line next) segments)
   where
-    on : (b : Bool) → lines_of (parts_from limit (alone next) segments) ≡ lines_from limit (whole_of (alone next)) segments
-        → lines_of (parts_from limit (with_next line next) segments) ≡ lines_from limit (whole_of (with_next line next)) segments
-        → lines_of (if b then line ∷ parts_from limit (alone next) segments else parts_from limit (with_next line next) segments)
-        ≡ (if b then line_of (whole_of line) ∷ lines_from limit next segments else lines_from limit (as_one (whole_of line) next) segments)
-    on true anew further = ap (λ lines. line_of (whole_of line) ∷ lines) anew
+    on : (b : Bool) → lines_of (whole_of line).is_mandatory (parts_from room (whole_of line).is_mandatory (alone next) segments) ≡ lines_from room (whole_of line).is_mandatory (whole_of (alone next)) segments
+        → lines_of is_first (parts_from room is_first (with_next line next) segments) ≡ lines_from room is_first (whole_of (with_next line next)) segments
+        → lines_of is_first (if b then line ∷ parts_from room (whole_of line).is_mandatory (alone next) segments else parts_from room is_first (with_next line next) segments)
+        ≡ (if b then line_of is_first (whole_of line) ∷ lines_from room (whole_of line).is_mandatory next segments else lines_from room is_first (as_one (whole_of line) next) segments)
+    on true anew further = ap (λ lines. line_of is_first (whole_of line) ∷ lines) anew
     on false anew further = rw (← whole-next line.first line.others next) further
 
 -- ---- the segments of a line are taken one by one
 
-parts-on : (limit : ℕ) (first : Segment) (others extra after : List Segment) → IsUnbroken first (others ++ extra)
-    → (0 < length (others ++ extra) → columns_of (whole first (others ++ extra)).cells ≤ limit)
-    → parts_from limit (record { first = first; others = others }) (extra ++ after) ≡ parts_from limit (record { first = first; others = others ++ extra }) after
+parts-on : (room : Room) (is_first : Bool) (first : Segment) (others extra after : List Segment) → IsUnbroken first (others ++ extra)
+    → (0 < length (others ++ extra) → columns_of (whole first (others ++ extra)).cells ≤ columns_in room is_first)
+    → parts_from room is_first (record { first = first; others = others }) (extra ++ after) ≡ parts_from room is_first (record { first = first; others = others ++ extra }) after
 unfolding parts_from whole
-parts-on limit first others [] after is fits = rw (append-nil others) refl
-parts-on limit first others (next ∷ extra) after is fits =
+parts-on room is_first first others [] after is fits = rw (append-nil others) refl
+parts-on room is_first first others (next ∷ extra) after is fits =
     let some : 0 < length (others ++ next ∷ extra) = omega (arith, length-append others (next ∷ extra)) in
-    let within : columns_of (whole (as_one (whole first others) next) extra).cells ≤ limit = rw (← whole-append first others (next ∷ extra)) (fits some) in
+    let within : columns_of (whole (as_one (whole first others) next) extra).cells ≤ columns_in room is_first = rw (← whole-append first others (next ∷ extra)) (fits some) in
     let same : (others ++ next ∷ []) ++ extra ≡ others ++ next ∷ extra = append_assoc others (next ∷ []) extra in
-    let further = parts-on limit first (others ++ next ∷ []) extra after (rw same is) (rw same fits) in
-    rw (goes-on limit (whole first others) next (unbroken-goes first others next extra is)
+    let further = parts-on room is_first first (others ++ next ∷ []) extra after (rw same is) (rw same fits) in
+    rw (goes-on (columns_in room is_first) (whole first others) next (unbroken-goes first others next extra is)
     (omega (arith, whole-grow (as_one (whole first others) next) extra, within)))
     (rw same at further)
 
 -- the greedy lines are the only ones
-only-from : (limit : ℕ) (line : Parts) (after : List Segment) (lines : List Parts) → IsLine limit line after → AreLines limit after lines
-    → parts_from limit line after ≡ line ∷ lines
+only-from : (room : Room) (is_first : Bool) (line : Parts) (after : List Segment) (lines : List Parts) → IsLine (columns_in room is_first) line after
+    → AreLines room (whole_of line).is_mandatory after lines → parts_from room is_first line after ≡ line ∷ lines
 unfolding parts_from AreLines
-only-from limit line [] [] is are = refl
-only-from limit line [] (one ∷ lines) is (later, (same, are)) = absurd (omega (arith, ap length same))
-only-from limit line (next ∷ after) [] is are = absurd (omega (arith, ap length are))
-only-from limit line (next ∷ after) (one ∷ lines) is (later, (same, (are, others))) =
-    rw (ends limit (whole_of line) next (is.full next after refl))
+only-from room is_first line [] [] is are = refl
+only-from room is_first line [] (one ∷ lines) is (later, (same, are)) = absurd (omega (arith, ap length same))
+only-from room is_first line (next ∷ after) [] is are = absurd (omega (arith, ap length are))
+only-from room is_first line (next ∷ after) (one ∷ lines) is (later, (same, (are, others))) =
+    rw (ends (columns_in room is_first) (whole_of line) next (is.full next after refl))
     (ap (λ parts. line ∷ parts)
     (rw (cons_head same, cons_tail same)
-    (parts-on limit one.first [] one.others later are.ends are.fits ∙ only-from limit one later lines are others)))
+    (parts-on room (whole_of line).is_mandatory one.first [] one.others later are.ends are.fits ∙ only-from room (whole_of line).is_mandatory one later lines are others)))
 
 -- ---- the greedy lines keep the rules
 
@@ -135,25 +138,25 @@ fits-of : (limit columns : ℕ) (mark : Bool) → (mark || nat_lt limit columns)
 fits-of limit columns true is = absurd (true≢false is)
 fits-of limit columns false is = ltb-false limit columns is
 
-are-from : (limit : ℕ) (line : Parts) (segments : List Segment) → IsUnbroken line.first line.others
-    → (0 < length line.others → columns_of (whole_of line).cells ≤ limit)
-    → AreLines limit (parts_of line ++ segments) (parts_from limit line segments)
+are-from : (room : Room) (is_first : Bool) (line : Parts) (segments : List Segment) → IsUnbroken line.first line.others
+    → (0 < length line.others → columns_of (whole_of line).cells ≤ columns_in room is_first)
+    → AreLines room is_first (parts_of line ++ segments) (parts_from room is_first line segments)
 unfolding parts_from AreLines IsUnbroken
-are-from limit line [] is fits =
+are-from room is_first line [] is fits =
     ([], (refl, (record { ends = is; fits = fits; full = λ next later same goes. absurd (omega (arith, ap length same)) }, refl)))
-are-from limit line (next ∷ segments) is fits =
-    on (ends_before limit (whole_of line) next) refl (are-from limit (alone next) segments tt (λ some. absurd (omega (arith, some))))
-    (λ further within. are-from limit (with_next line next) segments further within)
+are-from room is_first line (next ∷ segments) is fits =
+    on (ends_before (columns_in room is_first) (whole_of line) next) refl (are-from room (whole_of line).is_mandatory (alone next) segments tt (λ some. absurd (omega (arith, some))))
+    (λ further within. are-from room is_first (with_next line next) segments further within)
   where
     columns : ℕ
     columns = columns_of ((whole_of line).cells ++ next.cells)
 
-    on : (b : Bool) → ends_before limit (whole_of line) next ≡ b
-        → AreLines limit (next ∷ segments) (parts_from limit (alone next) segments)
-        → (IsUnbroken line.first (line.others ++ next ∷ []) → (0 < length (line.others ++ next ∷ []) → columns_of (whole line.first (line.others ++ next ∷ [])).cells ≤ limit)
-        → AreLines limit (line.first ∷ (line.others ++ next ∷ []) ++ segments) (parts_from limit (with_next line next) segments))
-        → AreLines limit (parts_of line ++ next ∷ segments)
-        (if b then line ∷ parts_from limit (alone next) segments else parts_from limit (with_next line next) segments)
+    on : (b : Bool) → ends_before (columns_in room is_first) (whole_of line) next ≡ b
+        → AreLines room (whole_of line).is_mandatory (next ∷ segments) (parts_from room (whole_of line).is_mandatory (alone next) segments)
+        → (IsUnbroken line.first (line.others ++ next ∷ []) → (0 < length (line.others ++ next ∷ []) → columns_of (whole line.first (line.others ++ next ∷ [])).cells ≤ columns_in room is_first)
+        → AreLines room is_first (line.first ∷ (line.others ++ next ∷ []) ++ segments) (parts_from room is_first (with_next line next) segments))
+        → AreLines room is_first (parts_of line ++ next ∷ segments)
+        (if b then line ∷ parts_from room (whole_of line).is_mandatory (alone next) segments else parts_from room is_first (with_next line next) segments)
     on true ended anew further = (
       next ∷ segments,
       (
@@ -162,7 +165,7 @@ are-from limit line (next ∷ segments) is fits =
           record {
             ends = is;
             fits = fits;
-            full = λ other later same goes. rw (← cons_head same) (full-of limit columns (whole_of line).is_mandatory ended goes);
+            full = λ other later same goes. rw (← cons_head same) (full-of (columns_in room is_first) columns (whole_of line).is_mandatory ended goes);
           },
           anew,
         ),
@@ -171,27 +174,27 @@ are-from limit line (next ∷ segments) is fits =
     on false ended anew further =
         rw (← append_assoc line.others (next ∷ []) segments)
         (further
-        (unbroken-next line.first line.others next is (goes-of limit columns (whole_of line).is_mandatory ended))
-        (λ some. rw (whole-next line.first line.others next) (fits-of limit columns (whole_of line).is_mandatory ended)))
+        (unbroken-next line.first line.others next is (goes-of (columns_in room is_first) columns (whole_of line).is_mandatory ended))
+        (λ some. rw (whole-next line.first line.others next) (fits-of (columns_in room is_first) columns (whole_of line).is_mandatory ended)))
 
 -- ---- both together
 
-pub one-wrapping : (limit : ℕ) (segments : List Segment) → HasOneWrapping limit segments
-unfolding AreLines IsUnbroken whole
-one-wrapping limit [] = record { lines = []; are = refl; wrapped = refl; only = none }
+pub one-wrapping : (room : Room) (segments : List Segment) → HasOneWrapping room segments
+unfolding AreLines IsUnbroken lines_of whole
+one-wrapping room [] = record { lines = []; are = refl; wrapped = refl; only = none }
   where
-    none : (others : List Parts) → AreLines limit [] others → others ≡ []
+    none : (others : List Parts) → AreLines room true [] others → others ≡ []
     none [] are = refl
     none (one ∷ others) (later, (same, are)) = absurd (omega (arith, ap length same))
-one-wrapping limit (first ∷ segments) = record {
-  lines = parts_from limit (alone first) segments;
-  are = are-from limit (alone first) segments tt (λ some. absurd (omega (arith, some)));
-  wrapped = parts-wrapped limit (alone first) segments;
+one-wrapping room (first ∷ segments) = record {
+  lines = parts_from room true (alone first) segments;
+  are = are-from room true (alone first) segments tt (λ some. absurd (omega (arith, some)));
+  wrapped = parts-wrapped room true (alone first) segments;
   only = only;
 }
   where
-    only : (others : List Parts) → AreLines limit (first ∷ segments) others → others ≡ parts_from limit (alone first) segments
+    only : (others : List Parts) → AreLines room true (first ∷ segments) others → others ≡ parts_from room true (alone first) segments
     only [] are = absurd (omega (arith, ap length are))
     only (one ∷ others) (later, (same, (are, lines))) =
         rw (cons_head same, cons_tail same)
-        (sym (parts-on limit one.first [] one.others later are.ends are.fits ∙ only-from limit one later others are lines))
+        (sym (parts-on room true one.first [] one.others later are.ends are.fits ∙ only-from room true one later others are lines))

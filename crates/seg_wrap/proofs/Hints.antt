@@ -7,8 +7,9 @@ use Rattle.seg_text.specs.declared.boundary.Boundary.{Boundary}
 use Rattle.seg_text.specs.Items.{IsRising, Text, rest_after}
 use Rattle.seg_text.proofs.Places.{IsRising-drop}
 use Rattle.seg_wrap.specs.declared.wrap.wrapping.Piece.{Piece}
+use Rattle.seg_wrap.specs.declared.wrap.wrapping.Room.{Room}
 use Rattle.seg_wrap.specs.Walk.{AreCuts, IsHeldPiece, LinesLeft, lines_held, segment_at}
-use Rattle.seg_wrap.specs.Wrapping.{Line, Measure, Segment, count_before, ends_before, line_of, lines_from, as_one, rest_from, segments_from, text_lines}
+use Rattle.seg_wrap.specs.Wrapping.{Line, Measure, Segment, columns_in, count_before, ends_before, line_of, lines_from, as_one, rest_from, segments_from, text_lines}
 use Rattle.seg_wrap.proofs.Places.{count-within, few-items, place-within}
 
 -- each break stands behind an item or more
@@ -30,25 +31,25 @@ segments-few measure text [] = refl
 segments-few measure text (one ∷ boundaries) = ap suc (segments-few measure (rest_from one.offset text) boundaries)
 
 -- a line takes a segment or more
-lines-few : (limit : ℕ) (line : Segment) (segments : List Segment) → length (lines_from limit line segments) ≤ 1 + length segments
+lines-few : (room : Room) (is_first : Bool) (line : Segment) (segments : List Segment) → length (lines_from room is_first line segments) ≤ 1 + length segments
 unfolding lines_from
-lines-few limit line [] = omega arith
-lines-few limit line (next ∷ segments) =
-    by (ends_before limit line next) (lines-few limit next segments) (lines-few limit (as_one line next) segments)
+lines-few room is_first line [] = omega arith
+lines-few room is_first line (next ∷ segments) =
+    by (ends_before (columns_in room is_first) line next) (lines-few room line.is_mandatory next segments) (lines-few room is_first (as_one line next) segments)
   where
-    by : (b : Bool) → length (lines_from limit next segments) ≤ 1 + length segments
-        → length (lines_from limit (as_one line next) segments) ≤ 1 + length segments
-        → length (if b then line_of line ∷ lines_from limit next segments else lines_from limit (as_one line next) segments) ≤ 1 + length (next ∷ segments)
+    by : (b : Bool) → length (lines_from room line.is_mandatory next segments) ≤ 1 + length segments
+        → length (lines_from room is_first (as_one line next) segments) ≤ 1 + length segments
+        → length (if b then line_of is_first line ∷ lines_from room line.is_mandatory next segments else lines_from room is_first (as_one line next) segments) ≤ 1 + length (next ∷ segments)
     by true ends goes = omega (arith, ends)
     by false ends goes = omega (arith, goes)
 
-lines-some : (limit : ℕ) (line : Segment) (segments : List Segment) → 0 < length (lines_from limit line segments)
+lines-some : (room : Room) (is_first : Bool) (line : Segment) (segments : List Segment) → 0 < length (lines_from room is_first line segments)
 unfolding lines_from
-lines-some limit line [] = omega arith
-lines-some limit line (next ∷ segments) = by (ends_before limit line next) (lines-some limit (as_one line next) segments)
+lines-some room is_first line [] = omega arith
+lines-some room is_first line (next ∷ segments) = by (ends_before (columns_in room is_first) line next) (lines-some room is_first (as_one line next) segments)
   where
-    by : (b : Bool) → 0 < length (lines_from limit (as_one line next) segments)
-        → 0 < length (if b then line_of line ∷ lines_from limit next segments else lines_from limit (as_one line next) segments)
+    by : (b : Bool) → 0 < length (lines_from room is_first (as_one line next) segments)
+        → 0 < length (if b then line_of is_first line ∷ lines_from room line.is_mandatory next segments else lines_from room is_first (as_one line next) segments)
     by true goes = omega arith
     by false goes = goes
 
@@ -61,21 +62,21 @@ held-within measure text held piece boundaries rises is some =
     omega (arith, held_is.0.at, place-within (rest_from piece.end text).items text.end later)
 
 -- with it there is a line, and no more than one for it and one for each unit after it
-pub held-some : (measure : Measure) (limit : ℕ) (text : Text) (held : Option Piece) (piece : Piece) (boundaries : List Boundary) → held ≡ Some piece
-    → 1 ≤ length (lines_held measure limit text held boundaries)
-held-some measure limit text held piece boundaries some =
-    rw some (lines-some limit (segment_at measure text piece) (segments_from measure (rest_from piece.end text) boundaries))
+pub held-some : (measure : Measure) (room : Room) (is_first : Bool) (text : Text) (held : Option Piece) (piece : Piece) (boundaries : List Boundary) → held ≡ Some piece
+    → 1 ≤ length (lines_held measure room is_first text held boundaries)
+held-some measure room is_first text held piece boundaries some =
+    rw some (lines-some room is_first (segment_at measure text piece) (segments_from measure (rest_from piece.end text) boundaries))
 
-pub held-few : (measure : Measure) (limit : ℕ) (text : Text) (held : Option Piece) (piece : Piece) (boundaries : List Boundary) → IsRising text.items text.end
-    → IsHeldPiece measure text held boundaries → held ≡ Some piece → length (lines_held measure limit text held boundaries) ≤ 1 + (text.end - piece.end)
-held-few measure limit text held piece boundaries rises is some =
+pub held-few : (measure : Measure) (room : Room) (is_first : Bool) (text : Text) (held : Option Piece) (piece : Piece) (boundaries : List Boundary) → IsRising text.items text.end
+    → IsHeldPiece measure text held boundaries → held ≡ Some piece → length (lines_held measure room is_first text held boundaries) ≤ 1 + (text.end - piece.end)
+held-few measure room is_first text held piece boundaries rises is some =
     let held_is : IsHeldPiece measure text (Some piece) boundaries = rw some at is in
     let rest = rest_from piece.end text in
     rw some
     (omega (
       arith,
       held_is.0.at,
-      lines-few limit (segment_at measure text piece) (segments_from measure rest boundaries),
+      lines-few room is_first (segment_at measure text piece) (segments_from measure rest boundaries),
       segments-few measure rest boundaries,
       cuts-few rest boundaries held_is.1,
       few-items rest.items text.end (IsRising-drop text.items text.end (count_before piece.end text) rises),

@@ -7,9 +7,10 @@ use Rattle.std.proofs.lemmas.List.{drop-drop, length-append, length-drop, nil_fr
 use Rattle.seg_text.specs.declared.boundary.Boundary.{Boundary}
 use Rattle.seg_text.specs.Items.{IsRising, Item, Text, place_of, rest_after, start_of}
 use Rattle.seg_text.proofs.Places.{IsRising-drop}
+use Rattle.seg_wrap.specs.declared.wrap.wrapping.Room.{Room}
 use Rattle.seg_wrap.specs.Walk.{AreCuts}
 use Rattle.seg_lines.specs.Between.{between}
-use Rattle.seg_wrap.specs.Wrapping.{Line, Measure, Segment, TextLine, count_before, ends_before, line_of, lines_from, as_one, rest_from, segments_from, text_lines, wrapped_lines}
+use Rattle.seg_wrap.specs.Wrapping.{Line, Measure, Segment, TextLine, columns_in, count_before, ends_before, line_of, lines_from, as_one, rest_from, segments_from, text_lines, wrapped_lines}
 use Rattle.seg_wrap.proofs.Texts.{IsTextOf}
 use Rattle.seg_wrap.proofs.Places.{characters-length, count-within, place-grows, place-within}
 
@@ -29,15 +30,15 @@ unfoldable pub segments_length : List Segment → ℕ
 segments_length [] = 0
 segments_length (segment ∷ segments) = length segment.characters + segments_length segments
 
-pub length-of-lines : (limit : ℕ) (line : Segment) (segments : List Segment) → lines_length (lines_from limit line segments) ≡ length line.characters + segments_length segments
+pub length-of-lines : (room : Room) (is_first : Bool) (line : Segment) (segments : List Segment) → lines_length (lines_from room is_first line segments) ≡ length line.characters + segments_length segments
 unfolding lines_from lines_length segments_length
-length-of-lines limit line [] = refl
-length-of-lines limit line (next ∷ segments) =
-    on (ends_before limit line next) (length-of-lines limit next segments) (length-of-lines limit (as_one line next) segments)
+length-of-lines room is_first line [] = refl
+length-of-lines room is_first line (next ∷ segments) =
+    on (ends_before (columns_in room is_first) line next) (length-of-lines room line.is_mandatory next segments) (length-of-lines room is_first (as_one line next) segments)
   where
-    on : (b : Bool) → lines_length (lines_from limit next segments) ≡ length next.characters + segments_length segments
-        → lines_length (lines_from limit (as_one line next) segments) ≡ length (line.characters ++ next.characters) + segments_length segments
-        → lines_length (if b then line_of line ∷ lines_from limit next segments else lines_from limit (as_one line next) segments)
+    on : (b : Bool) → lines_length (lines_from room line.is_mandatory next segments) ≡ length next.characters + segments_length segments
+        → lines_length (lines_from room is_first (as_one line next) segments) ≡ length (line.characters ++ next.characters) + segments_length segments
+        → lines_length (if b then line_of is_first line ∷ lines_from room line.is_mandatory next segments else lines_from room is_first (as_one line next) segments)
         ≡ length line.characters + (length next.characters + segments_length segments)
     on true anew further = ap (λ (n : ℕ). length line.characters + n) anew
     on false anew further = omega (arith, further, length-append line.characters next.characters)
@@ -65,21 +66,21 @@ lines-joined units text (line ∷ lines) rises same =
     ap (λ (later : List ℕ). between (start_of text) (start_of rest) units ++ later) (lines-joined units rest lines rises_on left)
     ∙ between-join units (start_of text) (start_of rest) text.end (place-grows text.items text.end taken rises) (place-within rest.items text.end rises_on)
 
-pub wrapped-joined : (measure : Measure) (limit : ℕ) (units : List ℕ) (text : Text) (boundaries : List Boundary) → IsRising text.items text.end → AreCuts text boundaries
-    → flat_map (λ (line : TextLine). line.units) (text_lines units text (wrapped_lines limit (segments_from measure text boundaries))) ≡ between (start_of text) text.end units
+pub wrapped-joined : (measure : Measure) (room : Room) (units : List ℕ) (text : Text) (boundaries : List Boundary) → IsRising text.items text.end → AreCuts text boundaries
+    → flat_map (λ (line : TextLine). line.units) (text_lines units text (wrapped_lines room (segments_from measure text boundaries))) ≡ between (start_of text) text.end units
 unfolding lines_length segments_length
-wrapped-joined measure limit units text boundaries rises cuts =
-    lines-joined units text (wrapped_lines limit (segments_from measure text boundaries)) rises
+wrapped-joined measure room units text boundaries rises cuts =
+    lines-joined units text (wrapped_lines room (segments_from measure text boundaries)) rises
     (on (segments_from measure text boundaries) ∙ length-of-segments measure text boundaries cuts)
   where
-    on : (segments : List Segment) → lines_length (wrapped_lines limit segments) ≡ segments_length segments
+    on : (segments : List Segment) → lines_length (wrapped_lines room segments) ≡ segments_length segments
     on [] = refl
-    on (first ∷ segments) = length-of-lines limit first segments
+    on (first ∷ segments) = length-of-lines room true first segments
 
 -- and those of a text that stands in some units are the units
-pub units-joined : (measure : Measure) (limit : ℕ) (units : List ℕ) (text : Text) (boundaries : List Boundary) → IsTextOf units text → AreCuts text boundaries
-    → flat_map (λ (line : TextLine). line.units) (text_lines units text (wrapped_lines limit (segments_from measure text boundaries))) ≡ units
-units-joined measure limit units text boundaries is cuts =
-    wrapped-joined measure limit units text boundaries is.rises cuts
+pub units-joined : (measure : Measure) (room : Room) (units : List ℕ) (text : Text) (boundaries : List Boundary) → IsTextOf units text → AreCuts text boundaries
+    → flat_map (λ (line : TextLine). line.units) (text_lines units text (wrapped_lines room (segments_from measure text boundaries))) ≡ units
+units-joined measure room units text boundaries is cuts =
+    wrapped-joined measure room units text boundaries is.rises cuts
     ∙ ap (λ (n : ℕ). between n text.end units) is.start
     ∙ take_all (text.end - 0) units (omega (arith, is.end))

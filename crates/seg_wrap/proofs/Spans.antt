@@ -152,30 +152,31 @@ take-measured measure text count pieces =
     ap line_columns (take-map measured count (segments_at measure text pieces) ∙ ap (map measured) (take-pieces measure text count pieces))
     ∙ columns-joined (segments_at measure text (take count pieces))
 
-spans-from : (measure : Measure) (limit skipped : ℕ) (all pieces : List Piece) (text : Text) (counts : List ℕ) → pieces ≡ drop skipped all → ArePieces measure text pieces
+spans-from : (measure : Measure) (limit skipped : ℕ) (is_first : Bool) (all pieces : List Piece) (text : Text) (counts : List ℕ) → pieces ≡ drop skipped all → ArePieces measure text pieces
     → AreLines limit (measured_at measure text pieces) counts
-    → spans_at (start_of text) all (lines_after skipped (measured_at measure text pieces) counts) ≡ spans_of text (lines_with counts (segments_at measure text pieces))
+    → spans_at is_first (start_of text) all (lines_after skipped (measured_at measure text pieces) counts)
+    ≡ spans_of text (lines_with is_first counts (segments_at measure text pieces))
 unfolding AreLines lines_after lines_with spans_at spans_of
-spans-from measure limit skipped all pieces text [] same are lines = refl
-spans-from measure limit skipped all pieces text (count ∷ counts) same are lines =
+spans-from measure limit skipped is_first all pieces text [] same are lines = refl
+spans-from measure limit skipped is_first all pieces text (count ∷ counts) same are lines =
     ap (λ (last : Piece). spanned last.end last.is_mandatory (line_columns (take count (measured_at measure text pieces)))
-    (spans_at last.end all (lines_after (skipped + count) (drop count (measured_at measure text pieces)) counts))) last
+    (spans_at false last.end all (lines_after (skipped + count) (drop count (measured_at measure text pieces)) counts))) last
     ∙ ap (λ (end : ℕ). spanned end mark (line_columns (take count (measured_at measure text pieces)))
-    (spans_at end all (lines_after (skipped + count) (drop count (measured_at measure text pieces)) counts))) (last-end measure text count pieces are some within)
+    (spans_at false end all (lines_after (skipped + count) (drop count (measured_at measure text pieces)) counts))) (last-end measure text count pieces are some within)
     ∙ ap (λ (columns : ℕ). spanned (start_of there) mark columns
-    (spans_at (start_of there) all (lines_after (skipped + count) (drop count (measured_at measure text pieces)) counts))) (take-measured measure text count pieces)
-    ∙ ap (λ (left : List MeasuredSegment). spanned (start_of there) mark (columns_of one.cells) (spans_at (start_of there) all (lines_after (skipped + count) left counts)))
+    (spans_at false (start_of there) all (lines_after (skipped + count) (drop count (measured_at measure text pieces)) counts))) (take-measured measure text count pieces)
+    ∙ ap (λ (left : List MeasuredSegment). spanned (start_of there) mark (columns_of one.cells) (spans_at false (start_of there) all (lines_after (skipped + count) left counts)))
     (drop-measured measure text count pieces)
     ∙ ap (λ (later : List Span). spanned (start_of there) mark (columns_of one.cells) later)
-    (spans-from measure limit (skipped + count) all (drop count pieces) there counts
+    (spans-from measure limit (skipped + count) false all (drop count pieces) there counts
     (ap (drop count) same ∙ drop-drop count skipped all) (are-dropped measure text count pieces are)
     (subst (λ (left : List MeasuredSegment). AreLines limit left counts) (drop-measured measure text count pieces) lines.1))
-    ∙ ap (λ (b : Bool). spanned (start_of there) b (columns_of one.cells) (spans_of there (lines_with counts (segments_at measure there (drop count pieces)))))
+    ∙ ap (λ (b : Bool). spanned (start_of there) b (columns_of one.cells) (spans_of there (lines_with false counts (segments_at measure there (drop count pieces)))))
     (last-mandatory measure text count pieces some within)
-    ∙ ap (λ (t : Text). spanned (start_of t) one.is_mandatory (columns_of one.cells) (spans_of t (lines_with counts (segments_at measure there (drop count pieces)))))
+    ∙ ap (λ (t : Text). spanned (start_of t) one.is_mandatory (columns_of one.cells) (spans_of t (lines_with false counts (segments_at measure there (drop count pieces)))))
     (sym (rest-joined measure text (take count pieces)))
-    ∙ ap (λ (left : List Segment). given_for one (lines_with counts left)) (sym (drop-pieces measure text count pieces))
-    ∙ ap (λ (first : List Segment). given_for (joined first) (lines_with counts (drop count (segments_at measure text pieces)))) (sym (take-pieces measure text count pieces))
+    ∙ ap (λ (left : List Segment). given_for one (lines_with false counts left)) (sym (drop-pieces measure text count pieces))
+    ∙ ap (λ (first : List Segment). given_for (joined first) (lines_with false counts (drop count (segments_at measure text pieces)))) (sym (take-pieces measure text count pieces))
   where
     some : 0 < count
     some = lines.0.some
@@ -196,7 +197,7 @@ spans-from measure limit skipped all pieces text (count ∷ counts) same are lin
     last = last-dropped skipped count all some ∙ ap (λ (qs : List Piece). last_of count qs) (sym same)
 
     spanned : ℕ → Bool → ℕ → List Span → List Span
-    spanned end b columns later = record { start = start_of text; end = end; columns = columns; is_mandatory = b } ∷ later
+    spanned end b columns later = record { start = start_of text; end = end; columns = columns; is_first = is_first; is_mandatory = b } ∷ later
 
     given_for : Segment → List Line → List Span
     given_for line later =
@@ -230,27 +231,28 @@ line-here (line ∷ lines) (suc index) default below =
     next : suc (index + 1) ≡ suc index + 1
     next = omega (arith)
 
-pub spans-next : (start here : ℕ) (pieces : List Piece) (lines : List BalancedLine) (index : ℕ) (default : BalancedLine) (spans more : List Span)
-    → spans_at start pieces lines ≡ spans ++ spans_at here pieces (drop index lines) → index < length lines
+pub spans-next : (first now : Bool) (start here : ℕ) (pieces : List Piece) (lines : List BalancedLine) (index : ℕ) (default : BalancedLine) (spans more : List Span)
+    → spans_at first start pieces lines ≡ spans ++ spans_at now here pieces (drop index lines) → index < length lines
     → more ≡ spans ++ record {
       start = here;
       end = (last_of (get_or lines index default).end pieces).end;
       columns = (get_or lines index default).columns;
+      is_first = now;
       is_mandatory = (last_of (get_or lines index default).end pieces).is_mandatory;
     } ∷ []
-    → spans_at start pieces lines ≡ more ++ spans_at (last_of (get_or lines index default).end pieces).end pieces (drop (index + 1) lines)
+    → spans_at first start pieces lines ≡ more ++ spans_at false (last_of (get_or lines index default).end pieces).end pieces (drop (index + 1) lines)
 unfolding spans_at
-spans-next start here pieces lines index default spans more owed below pushed =
+spans-next first now start here pieces lines index default spans more owed below pushed =
     owed
-    ∙ ap (λ (left : List BalancedLine). spans ++ spans_at here pieces left) (line-here lines index default below)
+    ∙ ap (λ (left : List BalancedLine). spans ++ spans_at now here pieces left) (line-here lines index default below)
     ∙ sym (append_assoc spans _ _)
-    ∙ ap (λ (found : List Span). found ++ spans_at (last_of (get_or lines index default).end pieces).end pieces (drop (index + 1) lines)) (sym pushed)
+    ∙ ap (λ (found : List Span). found ++ spans_at false (last_of (get_or lines index default).end pieces).end pieces (drop (index + 1) lines)) (sym pushed)
 
-pub spans-end : (start here : ℕ) (pieces : List Piece) (lines : List BalancedLine) (index : ℕ) (spans : List Span)
-    → spans_at start pieces lines ≡ spans ++ spans_at here pieces (drop index lines) → length lines ≤ index → spans ≡ spans_at start pieces lines
+pub spans-end : (first now : Bool) (start here : ℕ) (pieces : List Piece) (lines : List BalancedLine) (index : ℕ) (spans : List Span)
+    → spans_at first start pieces lines ≡ spans ++ spans_at now here pieces (drop index lines) → length lines ≤ index → spans ≡ spans_at first start pieces lines
 unfolding spans_at
-spans-end start here pieces lines index spans owed past =
-    sym (owed ∙ ap (λ (left : List BalancedLine). spans ++ spans_at here pieces left) (drop_all index lines past) ∙ append-nil spans)
+spans-end first now start here pieces lines index spans owed past =
+    sym (owed ∙ ap (λ (left : List BalancedLine). spans ++ spans_at now here pieces left) (drop_all index lines past) ∙ append-nil spans)
 
 -- the lines of a paragraph whose pieces are measured
 measured-first : (measure : Measure) (text rest : Text) (segments : List Segment) (boundaries : List Boundary) (pieces : List Piece)
@@ -269,20 +271,20 @@ lines-end measure limit text rest segments boundaries pieces lines is (counts, (
 given-paragraph : (measure : Measure) (limit : ℕ) (text rest : Text) (segments : List Segment) (boundaries : List Boundary) (pieces : List Piece)
     (lines : List BalancedLine) (spans : List Span)
     → IsParagraph measure text segments pieces rest boundaries → balance.AreBalancedLines limit (map measured_piece pieces) lines
-    → spans ≡ spans_at (start_of text) pieces lines
+    → spans ≡ spans_at true (start_of text) pieces lines
     → GivesParagraph (record { text = text; segments = segments; limit = limit }) spans
     (record { text = rest; segments = segments_from measure rest boundaries; limit = limit })
 given-paragraph measure limit text rest segments boundaries pieces lines spans is (counts, (balanced, lines-are)) spans-are = record {
-  lines = lines_with counts (first_paragraph segments);
+  lines = lines_with true counts (first_paragraph segments);
   balanced = (
     counts,
     (subst (λ (found : List MeasuredSegment). AreBalanced limit found counts) (measured-first measure text rest segments boundaries pieces is) balanced, refl),
   );
   stand =
       spans-are
-      ∙ ap (λ (found : List BalancedLine). spans_at (start_of text) pieces found) (lines-are ∙ ap (λ (found : List MeasuredSegment). lines_after 0 found counts) same)
-      ∙ spans-from measure limit 0 pieces pieces text counts refl is.are (subst (λ (found : List MeasuredSegment). AreLines limit found counts) same balanced.are)
-      ∙ ap (λ (found : List Segment). spans_of text (lines_with counts found)) is.first;
+      ∙ ap (λ (found : List BalancedLine). spans_at true (start_of text) pieces found) (lines-are ∙ ap (λ (found : List MeasuredSegment). lines_after 0 found counts) same)
+      ∙ spans-from measure limit 0 true pieces pieces text counts refl is.are (subst (λ (found : List MeasuredSegment). AreLines limit found counts) same balanced.are)
+      ∙ ap (λ (found : List Segment). spans_of text (lines_with true counts found)) is.first;
   text =
       is.rest_is
       ∙ sym (rest-joined measure text pieces)
@@ -305,12 +307,12 @@ pub ends-by : (pieces given : List Piece) (lines handed : List BalancedLine) →
 ends-by pieces given lines handed given-is handed-is end = rw (given-is, handed-is) end
 
 pub spans-by : (start place : ℕ) (pieces given : List Piece) (lines handed : List BalancedLine) (spans : List Span) → place ≡ start → given ≡ pieces → handed ≡ lines
-    → spans ≡ spans_at place given handed → spans ≡ spans_at start pieces lines
+    → spans ≡ spans_at true place given handed → spans ≡ spans_at true start pieces lines
 spans-by start place pieces given lines handed spans place-is given-is handed-is are = rw (← place-is, ← given-is, ← handed-is) are
 
 pub given-by : (measure : Measure) (limit : ℕ) (text rest : Text) (before given boundaries : List Boundary) (pieces : List Piece) (lines : List BalancedLine) (spans : List Span)
     → given ≡ before → IsParagraph measure text (segments_from measure text given) pieces rest boundaries
-    → balance.AreBalancedLines limit (map measured_piece pieces) lines → spans ≡ spans_at (start_of text) pieces lines
+    → balance.AreBalancedLines limit (map measured_piece pieces) lines → spans ≡ spans_at true (start_of text) pieces lines
     → GivesParagraph (record { text = text; segments = segments_from measure text before; limit = limit }) spans
     (record { text = rest; segments = segments_from measure rest boundaries; limit = limit })
 given-by measure limit text rest before given boundaries pieces lines spans same is balanced are =

@@ -8,8 +8,9 @@ use Rattle.seg_text.specs.Boundaries.{boundary}
 use Rattle.seg_text.specs.Items.{Item, Text, code_points, rest_after, start_of, text_before}
 use Rattle.seg_wrap.specs.declared.wrap.extent.Extent.{Extent}
 use Rattle.seg_wrap.specs.declared.wrap.wrapping.Piece.{Piece}
+use Rattle.seg_wrap.specs.declared.wrap.wrapping.Room.{Room}
 use Rattle.seg_wrap.specs.Walk.{line_extent, joined_extents, AreCuts, IsGrowing, IsHeldPiece, IsFirstPiece, IsFirstSegment, line_at, lines_held, rest_held, segment_at, segments_held}
-use Rattle.seg_wrap.specs.Wrapping.{Cell, Line, Measure, Segment, characters_before, columns_of, count_before, line_of, lines_from, rest_from, segments_from}
+use Rattle.seg_wrap.specs.Wrapping.{Cell, Line, Measure, Segment, characters_before, columns_in, columns_of, count_before, line_of, lines_from, rest_from, segments_from}
 use Rattle.seg_wrap.proofs.Extents.{columns-most, extent-append}
 use Rattle.seg_wrap.proofs.Places.{characters-on, count-before-on, first-before, rest-of-characters, rest-on, start-before}
 
@@ -20,8 +21,8 @@ joined_piece line piece = record { end = piece.end; extent = joined_extents line
 abbrev segment_with : Bool → List Cell → List ℕ → Segment
 segment_with mark cells cs = record { characters = cs; cells = cells; is_mandatory = mark }
 
-abbrev line_with : List ℕ → ℕ → Bool → Line
-line_with cs columns mark = record { characters = cs; columns = columns; is_mandatory = mark }
+abbrev line_with : Bool → List ℕ → ℕ → Bool → Line
+line_with is_first cs columns mark = record { characters = cs; columns = columns; is_first = is_first; is_mandatory = mark }
 
 -- a line of some cells, and the piece after it
 pub record IsPair (measure : Measure) (text : Text) (cells : List Cell) (line piece : Piece) : Type 0 where
@@ -67,22 +68,22 @@ rest-of-both measure text cells line piece is = rest-on text line.end piece.end 
 
 -- ---- a line grows
 
-pair-of : (measure : Measure) (limit : ℕ) (text after : Text) (owed : List Line) (line piece : Piece) (boundaries : List Boundary)
-    → (is : IsGrowing measure limit text owed line (Some piece) boundaries after) → IsPair measure text is.cells line piece
-pair-of measure limit text after owed line piece boundaries is = record { line_is = is.piece; piece_is = is.held_is.0 }
+pair-of : (measure : Measure) (room : Room) (is_first : Bool) (text after : Text) (owed : List Line) (line piece : Piece) (boundaries : List Boundary)
+    → (is : IsGrowing measure room is_first text owed line (Some piece) boundaries after) → IsPair measure text is.cells line piece
+pair-of measure room is_first text after owed line piece boundaries is = record { line_is = is.piece; piece_is = is.held_is.0 }
 
-grow-on : (measure : Measure) (limit : ℕ) (text here after : Text) (owed : List Line) (line piece : Piece) (before : List Boundary) (held : Option Piece) (boundaries : List Boundary)
-    → IsGrowing measure limit text owed line (Some piece) before here
-    → (line.is_mandatory || nat_lt limit (joined_extents line.extent piece.extent).columns) ≡ false
+grow-on : (measure : Measure) (room : Room) (is_first : Bool) (text here after : Text) (owed : List Line) (line piece : Piece) (before : List Boundary) (held : Option Piece) (boundaries : List Boundary)
+    → IsGrowing measure room is_first text owed line (Some piece) before here
+    → (line.is_mandatory || nat_lt (columns_in room is_first) (joined_extents line.extent piece.extent).columns) ≡ false
     → segments_held measure here held boundaries ≡ segments_from measure here before → IsHeldPiece measure here held boundaries → after ≡ rest_held here held
-    → IsGrowing measure limit text owed (joined_piece line piece) held boundaries after
+    → IsGrowing measure room is_first text owed (joined_piece line piece) held boundaries after
 unfolding lines_from
-grow-on measure limit text here after owed line piece before held boundaries is goes segments held_is after_is =
-    let pair = pair-of measure limit text here owed line piece before is in
+grow-on measure room is_first text here after owed line piece before held boundaries is goes segments held_is after_is =
+    let pair = pair-of measure room is_first text here owed line piece before is in
     let cells : List Cell = is.cells ++ cells_after measure text line piece in
     let there : here ≡ rest_from piece.end text = is.after_is ∙ rest-of-both measure text is.cells line piece pair in
-    let further : (line.is_mandatory || nat_lt limit (columns_of cells)) ≡ false
-    = subst (λ (n : ℕ). (line.is_mandatory || nat_lt limit n) ≡ false) (columns-of-both measure text is.cells line piece pair) goes in
+    let further : (line.is_mandatory || nat_lt (columns_in room is_first) (columns_of cells)) ≡ false
+    = subst (λ (n : ℕ). (line.is_mandatory || nat_lt (columns_in room is_first) n) ≡ false) (columns-of-both measure text is.cells line piece pair) goes in
     let owes = rw further at is.lines in
     let same : segments_held measure (rest_from piece.end text) held boundaries ≡ segments_from measure (rest_from piece.end (rest_from line.end text)) before
     = subst (λ (t : Text). segments_held measure t held boundaries ≡ segments_from measure here before) there segments
@@ -93,34 +94,34 @@ grow-on measure limit text here after owed line piece before held boundaries is 
       piece = piece-of-both measure text is.cells line piece pair;
       held_is = subst (λ (t : Text). IsHeldPiece measure t held boundaries) there held_is;
       after_is = after_is ∙ ap (λ (t : Text). rest_held t held) there;
-      lines = ap (lines_from limit (segment_with piece.is_mandatory cells (characters_before piece.end text))) same
-          ∙ ap (λ (cs : List ℕ). lines_from limit (segment_with piece.is_mandatory cells cs) (segments_from measure (rest_from piece.end (rest_from line.end text)) before)) characters
+      lines = ap (lines_from room is_first (segment_with piece.is_mandatory cells (characters_before piece.end text))) same
+          ∙ ap (λ (cs : List ℕ). lines_from room is_first (segment_with piece.is_mandatory cells cs) (segments_from measure (rest_from piece.end (rest_from line.end text)) before)) characters
           ∙ owes;
     }
 
 -- a line as the cells say, and as the piece does
-line-of-cells : (text : Text) (cells : List Cell) (line : Piece) → IsFirstPiece text cells line
-    → line_of (segment_with line.is_mandatory cells (characters_before line.end text)) ≡ line_at text line
-line-of-cells text cells line is =
-    ap (λ (extent : Extent). line_with (characters_before line.end text) extent.columns line.is_mandatory) (sym is.measured)
+line-of-cells : (is_first : Bool) (text : Text) (cells : List Cell) (line : Piece) → IsFirstPiece text cells line
+    → line_of is_first (segment_with line.is_mandatory cells (characters_before line.end text)) ≡ line_at is_first text line
+line-of-cells is_first text cells line is =
+    ap (λ (extent : Extent). line_with is_first (characters_before line.end text) extent.columns line.is_mandatory) (sym is.measured)
 
-grow-stop : (measure : Measure) (limit : ℕ) (text here : Text) (owed : List Line) (line piece : Piece) (boundaries : List Boundary)
-    → IsGrowing measure limit text owed line (Some piece) boundaries here
-    → (line.is_mandatory || nat_lt limit (joined_extents line.extent piece.extent).columns) ≡ true
-    → owed ≡ line_at text line ∷ lines_held measure limit (rest_from line.end text) (Some piece) boundaries
+grow-stop : (measure : Measure) (room : Room) (is_first : Bool) (text here : Text) (owed : List Line) (line piece : Piece) (boundaries : List Boundary)
+    → IsGrowing measure room is_first text owed line (Some piece) boundaries here
+    → (line.is_mandatory || nat_lt (columns_in room is_first) (joined_extents line.extent piece.extent).columns) ≡ true
+    → owed ≡ line_at is_first text line ∷ lines_held measure room line.is_mandatory (rest_from line.end text) (Some piece) boundaries
 unfolding lines_from
-grow-stop measure limit text here owed line piece boundaries is stops =
-    let pair = pair-of measure limit text here owed line piece boundaries is in
-    let stopped : (line.is_mandatory || nat_lt limit (columns_of (is.cells ++ cells_after measure text line piece))) ≡ true
-    = subst (λ (n : ℕ). (line.is_mandatory || nat_lt limit n) ≡ true) (columns-of-both measure text is.cells line piece pair) stops in
-    sym (rw stopped at is.lines) ∙ ap (λ (one : Line). one ∷ lines_held measure limit (rest_from line.end text) (Some piece) boundaries) (line-of-cells text is.cells line is.piece)
+grow-stop measure room is_first text here owed line piece boundaries is stops =
+    let pair = pair-of measure room is_first text here owed line piece boundaries is in
+    let stopped : (line.is_mandatory || nat_lt (columns_in room is_first) (columns_of (is.cells ++ cells_after measure text line piece))) ≡ true
+    = subst (λ (n : ℕ). (line.is_mandatory || nat_lt (columns_in room is_first) n) ≡ true) (columns-of-both measure text is.cells line piece pair) stops in
+    sym (rw stopped at is.lines) ∙ ap (λ (one : Line). one ∷ lines_held measure room line.is_mandatory (rest_from line.end text) (Some piece) boundaries) (line-of-cells is_first text is.cells line is.piece)
 
-grow-end : (measure : Measure) (limit : ℕ) (text here : Text) (owed : List Line) (line : Piece) (boundaries : List Boundary)
-    → IsGrowing measure limit text owed line None boundaries here
-    → owed ≡ line_at text line ∷ lines_held measure limit (rest_from line.end text) None boundaries
+grow-end : (measure : Measure) (room : Room) (is_first : Bool) (text here : Text) (owed : List Line) (line : Piece) (boundaries : List Boundary)
+    → IsGrowing measure room is_first text owed line None boundaries here
+    → owed ≡ line_at is_first text line ∷ lines_held measure room line.is_mandatory (rest_from line.end text) None boundaries
 unfolding lines_from
-grow-end measure limit text here owed line boundaries is =
-    sym is.lines ∙ ap (λ (one : Line). one ∷ []) (line-of-cells text is.cells line is.piece)
+grow-end measure room is_first text here owed line boundaries is =
+    sym is.lines ∙ ap (λ (one : Line). one ∷ []) (line-of-cells is_first text is.cells line is.piece)
 
 -- ---- one break is read
 
@@ -177,70 +178,70 @@ read-held measure text part end mark extent before after cuts is part_is measure
 
 -- ---- one piece more
 
-growing-at : (measure : Measure) (limit : ℕ) (text here : Text) (owed : List Line) (line : Piece) (held : Option Piece) (piece : Piece) (boundaries : List Boundary)
-    → IsGrowing measure limit text owed line held boundaries here → held ≡ Some piece → IsGrowing measure limit text owed line (Some piece) boundaries here
-growing-at measure limit text here owed line held piece boundaries is some = subst (λ (h : Option Piece). IsGrowing measure limit text owed line h boundaries here) some is
+growing-at : (measure : Measure) (room : Room) (is_first : Bool) (text here : Text) (owed : List Line) (line : Piece) (held : Option Piece) (piece : Piece) (boundaries : List Boundary)
+    → IsGrowing measure room is_first text owed line held boundaries here → held ≡ Some piece → IsGrowing measure room is_first text owed line (Some piece) boundaries here
+growing-at measure room is_first text here owed line held piece boundaries is some = subst (λ (h : Option Piece). IsGrowing measure room is_first text owed line h boundaries here) some is
 
-pub turn-within : (measure : Measure) (limit : ℕ) (text here : Text) (owed : List Line) (line : Piece) (held : Option Piece) (piece : Piece) (boundaries : List Boundary)
-    → IsGrowing measure limit text owed line held boundaries here → held ≡ Some piece → piece.extent.columns ≤ piece.extent.inner_columns
-turn-within measure limit text here owed line held piece boundaries is some =
-    let growing = growing-at measure limit text here owed line held piece boundaries is some in
+pub turn-within : (measure : Measure) (room : Room) (is_first : Bool) (text here : Text) (owed : List Line) (line : Piece) (held : Option Piece) (piece : Piece) (boundaries : List Boundary)
+    → IsGrowing measure room is_first text owed line held boundaries here → held ≡ Some piece → piece.extent.columns ≤ piece.extent.inner_columns
+turn-within measure room is_first text here owed line held piece boundaries is some =
+    let growing = growing-at measure room is_first text here owed line held piece boundaries is some in
     rw growing.held_is.0.measured (columns-most (measure (characters_before piece.end (rest_from line.end text))))
 
-pub turn : (measure : Measure) (limit : ℕ) (text here after : Text) (owed : List Line) (line : Piece) (before : Option Piece) (piece : Piece) (extent : Extent) (left : List Boundary)
+pub turn : (measure : Measure) (room : Room) (is_first : Bool) (text here after : Text) (owed : List Line) (line : Piece) (before : Option Piece) (piece : Piece) (extent : Extent) (left : List Boundary)
     (held : Option Piece) (boundaries : List Boundary)
-    → IsGrowing measure limit text owed line before left here → before ≡ Some piece
-    → extent ≡ joined_extents line.extent piece.extent → line.is_mandatory ≡ false → extent.columns ≤ limit
+    → IsGrowing measure room is_first text owed line before left here → before ≡ Some piece
+    → extent ≡ joined_extents line.extent piece.extent → line.is_mandatory ≡ false → extent.columns ≤ columns_in room is_first
     → segments_held measure here held boundaries ≡ segments_from measure here left → IsHeldPiece measure here held boundaries → after ≡ rest_held here held
-    → IsGrowing measure limit text owed (record { end = piece.end; extent = extent; is_mandatory = piece.is_mandatory }) held boundaries after
-turn measure limit text here after owed line before piece extent left held boundaries is some both mark fits segments held_is after_is =
-    let goes : (line.is_mandatory || nat_lt limit (joined_extents line.extent piece.extent).columns) ≡ false = rw mark (subst (λ (e : Extent). nat_lt limit e.columns ≡ false) both (le-ltb limit extent.columns fits)) in
-    subst (λ (e : Extent). IsGrowing measure limit text owed (record { end = piece.end; extent = e; is_mandatory = piece.is_mandatory }) held boundaries after) (sym both)
-    (grow-on measure limit text here after owed line piece left held boundaries (growing-at measure limit text here owed line before piece left is some) goes segments held_is after_is)
+    → IsGrowing measure room is_first text owed (record { end = piece.end; extent = extent; is_mandatory = piece.is_mandatory }) held boundaries after
+turn measure room is_first text here after owed line before piece extent left held boundaries is some both mark fits segments held_is after_is =
+    let goes : (line.is_mandatory || nat_lt (columns_in room is_first) (joined_extents line.extent piece.extent).columns) ≡ false = rw mark (subst (λ (e : Extent). nat_lt (columns_in room is_first) e.columns ≡ false) both (le-ltb (columns_in room is_first) extent.columns fits)) in
+    subst (λ (e : Extent). IsGrowing measure room is_first text owed (record { end = piece.end; extent = e; is_mandatory = piece.is_mandatory }) held boundaries after) (sym both)
+    (grow-on measure room is_first text here after owed line piece left held boundaries (growing-at measure room is_first text here owed line before piece left is some) goes segments held_is after_is)
 
 -- with each piece fewer segments are left
-pub turn-fewer : (measure : Measure) (limit : ℕ) (text here : Text) (owed : List Line) (line : Piece) (before : Option Piece) (piece : Piece) (left : List Boundary)
+pub turn-fewer : (measure : Measure) (room : Room) (is_first : Bool) (text here : Text) (owed : List Line) (line : Piece) (before : Option Piece) (piece : Piece) (left : List Boundary)
     (held : Option Piece) (boundaries : List Boundary)
-    → IsGrowing measure limit text owed line before left here → before ≡ Some piece
+    → IsGrowing measure room is_first text owed line before left here → before ≡ Some piece
     → segments_held measure here held boundaries ≡ segments_from measure here left
     → length (segments_held measure (rest_from piece.end text) held boundaries) < length (segments_held measure (rest_from line.end text) before left)
-turn-fewer measure limit text here owed line before piece left held boundaries is some segments =
-    let growing = growing-at measure limit text here owed line before piece left is some in
-    let there : here ≡ rest_from piece.end text = growing.after_is ∙ rest-of-both measure text growing.cells line piece (pair-of measure limit text here owed line piece left growing) in
+turn-fewer measure room is_first text here owed line before piece left held boundaries is some segments =
+    let growing = growing-at measure room is_first text here owed line before piece left is some in
+    let there : here ≡ rest_from piece.end text = growing.after_is ∙ rest-of-both measure text growing.cells line piece (pair-of measure room is_first text here owed line piece left growing) in
     let same : segments_held measure (rest_from piece.end text) held boundaries ≡ segments_from measure (rest_from piece.end (rest_from line.end text)) left
     = subst (λ (t : Text). segments_held measure t held boundaries ≡ segments_from measure here left) there segments
     ∙ ap (λ (t : Text). segments_from measure t left) growing.after_is in
     rw (some, same) (omega arith)
 
-pub turn-stop : (measure : Measure) (limit : ℕ) (text here : Text) (owed : List Line) (line : Piece) (held : Option Piece) (piece : Piece) (extent : Extent) (boundaries : List Boundary)
-    → IsGrowing measure limit text owed line held boundaries here → held ≡ Some piece
-    → extent ≡ joined_extents line.extent piece.extent → (line.is_mandatory || nat_lt limit extent.columns) ≡ true
-    → owed ≡ line_at text line ∷ lines_held measure limit (rest_from line.end text) (Some piece) boundaries
-turn-stop measure limit text here owed line held piece extent boundaries is some both stops =
-    grow-stop measure limit text here owed line piece boundaries (growing-at measure limit text here owed line held piece boundaries is some)
-    (subst (λ (e : Extent). (line.is_mandatory || nat_lt limit e.columns) ≡ true) both stops)
+pub turn-stop : (measure : Measure) (room : Room) (is_first : Bool) (text here : Text) (owed : List Line) (line : Piece) (held : Option Piece) (piece : Piece) (extent : Extent) (boundaries : List Boundary)
+    → IsGrowing measure room is_first text owed line held boundaries here → held ≡ Some piece
+    → extent ≡ joined_extents line.extent piece.extent → (line.is_mandatory || nat_lt (columns_in room is_first) extent.columns) ≡ true
+    → owed ≡ line_at is_first text line ∷ lines_held measure room line.is_mandatory (rest_from line.end text) (Some piece) boundaries
+turn-stop measure room is_first text here owed line held piece extent boundaries is some both stops =
+    grow-stop measure room is_first text here owed line piece boundaries (growing-at measure room is_first text here owed line held piece boundaries is some)
+    (subst (λ (e : Extent). (line.is_mandatory || nat_lt (columns_in room is_first) e.columns) ≡ true) both stops)
 
-pub turn-end : (measure : Measure) (limit : ℕ) (text here : Text) (owed : List Line) (line : Piece) (held : Option Piece) (boundaries : List Boundary)
-    → IsGrowing measure limit text owed line held boundaries here → held ≡ None
-    → owed ≡ line_at text line ∷ lines_held measure limit (rest_from line.end text) held boundaries
-turn-end measure limit text here owed line held boundaries is none =
-    rw none (grow-end measure limit text here owed line boundaries (subst (λ (h : Option Piece). IsGrowing measure limit text owed line h boundaries here) none is))
+pub turn-end : (measure : Measure) (room : Room) (is_first : Bool) (text here : Text) (owed : List Line) (line : Piece) (held : Option Piece) (boundaries : List Boundary)
+    → IsGrowing measure room is_first text owed line held boundaries here → held ≡ None
+    → owed ≡ line_at is_first text line ∷ lines_held measure room line.is_mandatory (rest_from line.end text) held boundaries
+turn-end measure room is_first text here owed line held boundaries is none =
+    rw none (grow-end measure room is_first text here owed line boundaries (subst (λ (h : Option Piece). IsGrowing measure room is_first text owed line h boundaries here) none is))
 
 -- the line that is found is given
-pub given-span : (measure : Measure) (limit : ℕ) (text rest : Text) (held : Option Piece) (first line : Piece) (next : Option Piece) (left later : List Boundary)
+pub given-span : (measure : Measure) (room : Room) (is_first : Bool) (text rest : Text) (held : Option Piece) (first line : Piece) (next : Option Piece) (left later : List Boundary)
     → held ≡ Some first → (cells : List Cell) × IsFirstPiece text cells line → rest ≡ rest_from line.end text
-    → lines_from limit (segment_at measure text first) (segments_from measure (rest_from first.end text) left) ≡ line_at text line ∷ lines_held measure limit (rest_from line.end text) next later
-    → (one : Line) × ((lines_held measure limit text held left ≡ one ∷ lines_held measure limit rest next later) × ((rest ≡ rest_after (length one.characters) text)
-    × ((line.end ≡ start_of rest) × ((line.extent.columns ≡ one.columns) × (line.is_mandatory ≡ one.is_mandatory)))))
-given-span measure limit text rest held first line next left later held_is is rest_is lines = (
-  line_at text line,
+    → lines_from room is_first (segment_at measure text first) (segments_from measure (rest_from first.end text) left) ≡ line_at is_first text line ∷ lines_held measure room line.is_mandatory (rest_from line.end text) next later
+    → (one : Line) × ((lines_held measure room is_first text held left ≡ one ∷ lines_held measure room line.is_mandatory rest next later) × ((rest ≡ rest_after (length one.characters) text)
+    × ((line.end ≡ start_of rest) × ((line.extent.columns ≡ one.columns) × ((is_first ≡ one.is_first) × (line.is_mandatory ≡ one.is_mandatory))))))
+given-span measure room is_first text rest held first line next left later held_is is rest_is lines = (
+  line_at is_first text line,
   (
-    rw held_is (lines ∙ ap (λ (t : Text). line_at text line ∷ lines_held measure limit t next later) (sym rest_is)),
+    rw held_is (lines ∙ ap (λ (t : Text). line_at is_first text line ∷ lines_held measure room line.is_mandatory t next later) (sym rest_is)),
     (
       rest_is ∙ sym (rest-of-characters text line.end),
       (
         is.1.at ∙ ap start_of (sym rest_is),
-        (refl, refl),
+        (refl, (refl, refl)),
       ),
     ),
   ),

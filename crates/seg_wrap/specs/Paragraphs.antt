@@ -1,5 +1,5 @@
 -- Lines of a text, balanced paragraph by paragraph.
-use Rattle.std.specs.Prelude.{ℕ, ◌-◌, false, List, [], ◌∷◌, drop, take, length, map, if◌then◌else◌, ◌≡◌}
+use Rattle.std.specs.Prelude.{ℕ, ◌-◌, Bool, true, false, List, [], ◌∷◌, drop, take, length, map, if◌then◌else◌, ◌≡◌}
 use Rattle.seg_balance.specs.declared.balance.MeasuredSegment.{MeasuredSegment}
 use Rattle.seg_balance.specs.Balanced.{AreBalanced}
 use Rattle.seg_text.specs.Items.{Text, rest_after, start_of}
@@ -31,21 +31,21 @@ joined [] = record { characters = []; cells = []; is_mandatory = false }
 joined (segment ∷ []) = segment
 joined (segment ∷ next ∷ segments) = as_one segment (joined (next ∷ segments))
 
--- lines with so many of these segments each
-unfoldable pub lines_with : List ℕ → List Segment → List Line
-lines_with [] segments = []
-lines_with (count ∷ counts) segments = line_of (joined (take count segments)) ∷ lines_with counts (drop count segments)
+-- lines of a paragraph with so many of these segments each, from its first line on or from a later one
+unfoldable pub lines_with : Bool → List ℕ → List Segment → List Line
+lines_with is_first [] segments = []
+lines_with is_first (count ∷ counts) segments = line_of is_first (joined (take count segments)) ∷ lines_with false counts (drop count segments)
 
--- these are the balanced lines of so many columns
+-- these are the balanced lines of a paragraph, of so many columns
 abbrev pub AreBalancedLines : ℕ → List Segment → List Line → Type 0
-AreBalancedLines limit segments lines = (counts : List ℕ) × (AreBalanced limit (map measured segments) counts × (lines ≡ lines_with counts segments))
+AreBalancedLines limit segments lines = (counts : List ℕ) × (AreBalanced limit (map measured segments) counts × (lines ≡ lines_with true counts segments))
 
 -- where lines of a text stand
 unfoldable pub spans_of : Text → List Line → List Span
 spans_of text [] = []
 spans_of text (line ∷ lines) =
     let rest = rest_after (length line.characters) text in
-    record { start = start_of text; end = start_of rest; columns = line.columns; is_mandatory = line.is_mandatory } ∷ spans_of rest lines
+    record { start = start_of text; end = start_of rest; columns = line.columns; is_first = line.is_first; is_mandatory = line.is_mandatory } ∷ spans_of rest lines
 
 -- what is left of a text, its segments, and the columns that its lines may have
 pub record ParagraphsLeft : Type 0 where

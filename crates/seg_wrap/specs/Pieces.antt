@@ -1,5 +1,5 @@
 -- Pieces of a text that were read, one after another.
-use Rattle.std.specs.Prelude.{ℕ, ◌-◌, ◌<◌, ◌≤◌, false, List, [], ◌∷◌, get_or, length, ◌≡◌}
+use Rattle.std.specs.Prelude.{ℕ, ◌-◌, ◌<◌, ◌≤◌, Bool, false, List, [], ◌∷◌, get_or, length, ◌≡◌}
 use Rattle.std.specs.List.{All}
 use Rattle.seg_balance.specs.declared.balance.BalancedLine.{BalancedLine}
 use Rattle.seg_balance.specs.declared.balance.MeasuredSegment.{MeasuredSegment}
@@ -48,12 +48,13 @@ abbrev pub last_of : ℕ → List Piece → Piece
 last_of count pieces =
     get_or pieces (count - 1) (record { end = 0; extent = record { columns = 0; inner_columns = 0; is_trailing = false }; is_mandatory = false })
 
--- where lines stand that end with these pieces
-unfoldable pub spans_at : ℕ → List Piece → List BalancedLine → List Span
-spans_at start pieces [] = []
-spans_at start pieces (line ∷ lines) =
+-- where lines of a paragraph stand that end with these pieces, from its first line on or from a later one
+unfoldable pub spans_at : Bool → ℕ → List Piece → List BalancedLine → List Span
+spans_at is_first start pieces [] = []
+spans_at is_first start pieces (line ∷ lines) =
     let last = last_of line.end pieces in
-    record { start = start; end = last.end; columns = line.columns; is_mandatory = last.is_mandatory } ∷ spans_at last.end pieces lines
+    record { start = start; end = last.end; columns = line.columns; is_first = is_first; is_mandatory = last.is_mandatory }
+    ∷ spans_at false last.end pieces lines
 
 -- each of these lines ends with a piece
 abbrev pub EndWithPieces : List Piece → List BalancedLine → Type 0

@@ -1,5 +1,5 @@
 -- A wrapper on its way through a text, and what it measures.
-use Rattle.std.specs.Prelude.{◌≡◌, ℕ, ◌+◌, ◌&&◌, List, [], ◌∷◌, ◌++◌, if◌then◌else◌, ◌*◌, ◌<◌, ◌≤◌, ◌==◌, length, Option, Some, None, MatchOption}
+use Rattle.std.specs.Prelude.{◌≡◌, ℕ, ◌+◌, ◌&&◌, Bool, List, [], ◌∷◌, ◌++◌, if◌then◌else◌, ◌*◌, ◌<◌, ◌≤◌, ◌==◌, length, Option, Some, None, MatchOption}
 use Rattle.seg_text.specs.Items.{Text, code_points, rest_after, start_of}
 use Rattle.seg_text.specs.declared.boundary.Boundary.{Boundary}
 use Rattle.seg_text.specs.Boundaries.{boundary}
@@ -10,6 +10,7 @@ use Rattle.seg_wrap.specs.declared.wrap.measure.Measuring.TheVariants.{Character
 use Rattle.seg_wrap.specs.Wrapping.{Cell, Measure, are_trailing, by_characters, by_clusters, columns_of, total_of, Line, Segment, characters_before, count_before, lines_from, rest_from, segment_of, segments_from}
 use Rattle.seg_wrap.specs.declared.wrap.breaks.Break.{Break}
 use Rattle.seg_wrap.specs.declared.wrap.wrapping.Piece.{Piece}
+use Rattle.seg_wrap.specs.declared.wrap.wrapping.Room.{Room}
 use Rattle.seg_wrap.specs.declared.wrap.wrapping.Span.{Span}
 
 -- how a wrapper measures
@@ -55,8 +56,9 @@ AreCuts text (one ∷ boundaries) =
 abbrev pub segment_at : Measure → Text → Piece → Segment
 segment_at measure text piece = segment_of measure (characters_before piece.end text) piece.is_mandatory
 
-abbrev pub line_at : Text → Piece → Line
-line_at text piece = record { characters = characters_before piece.end text; columns = piece.extent.columns; is_mandatory = piece.is_mandatory }
+abbrev pub line_at : Bool → Text → Piece → Line
+line_at is_first text piece =
+    record { characters = characters_before piece.end text; columns = piece.extent.columns; is_first = is_first; is_mandatory = piece.is_mandatory }
 
 -- a text begins with this piece, and this is the extent of its cells
 pub record IsFirstPiece (text : Text) (cells : List Cell) (piece : Piece) : Type 0 where
@@ -79,23 +81,24 @@ abbrev pub segments_held : Measure → Text → Option Piece → List Boundary �
 segments_held measure text None boundaries = []
 segments_held measure text (Some piece) boundaries = segment_at measure text piece ∷ segments_from measure (rest_from piece.end text) boundaries
 
-abbrev pub lines_held : Measure → ℕ → Text → Option Piece → List Boundary → List Line
-lines_held measure limit text None boundaries = []
-lines_held measure limit text (Some piece) boundaries =
-    lines_from limit (segment_at measure text piece) (segments_from measure (rest_from piece.end text) boundaries)
+abbrev pub lines_held : Measure → Room → Bool → Text → Option Piece → List Boundary → List Line
+lines_held measure room is_first text None boundaries = []
+lines_held measure room is_first text (Some piece) boundaries =
+    lines_from room is_first (segment_at measure text piece) (segments_from measure (rest_from piece.end text) boundaries)
 
 -- what is held is a piece, and the boundaries that follow stand after it
 abbrev pub IsHeldPiece : Measure → Text → Option Piece → List Boundary → Type 0
 IsHeldPiece measure text None boundaries = (text.items ≡ []) × (boundaries ≡ [])
 IsHeldPiece measure text (Some piece) boundaries = IsFirstSegment measure text piece × AreCuts (rest_from piece.end text) boundaries
 
--- a line that began with some segments, the piece after it, and what is left of the boundaries and of the text: the lines owed are those from here on
-pub record IsGrowing (measure : Measure) (limit : ℕ) (text : Text) (owed : List Line) (line : Piece) (held : Option Piece) (boundaries : List Boundary) (after : Text) : Type 0 where
+-- a line that began with some segments, a paragraph's first or not, the piece after it, and what is left of the boundaries and of the text: the
+-- lines owed are those from here on
+pub record IsGrowing (measure : Measure) (room : Room) (is_first : Bool) (text : Text) (owed : List Line) (line : Piece) (held : Option Piece) (boundaries : List Boundary) (after : Text) : Type 0 where
   pub cells : List Cell
   pub piece : IsFirstPiece text cells line
   pub held_is : IsHeldPiece measure (rest_from line.end text) held boundaries
   pub after_is : after ≡ rest_held (rest_from line.end text) held
-  pub lines : lines_from limit (record { characters = characters_before line.end text; cells = cells; is_mandatory = line.is_mandatory })
+  pub lines : lines_from room is_first (record { characters = characters_before line.end text; cells = cells; is_mandatory = line.is_mandatory })
       (segments_held measure (rest_from line.end text) held boundaries) ≡ owed
 
 -- what is left of a text, and the lines that it has
@@ -109,4 +112,4 @@ GivesLine before result after =
     MatchOption result ((before.lines ≡ []) × (after ≡ before)) (λ span.
     (line : Line) × ((before.lines ≡ line ∷ after.lines) × ((after.text ≡ rest_after (length line.characters) before.text)
     × ((span.start ≡ start_of before.text) × ((span.end ≡ start_of after.text)
-    × ((span.columns ≡ line.columns) × (span.is_mandatory ≡ line.is_mandatory)))))))
+    × ((span.columns ≡ line.columns) × ((span.is_first ≡ line.is_first) × (span.is_mandatory ≡ line.is_mandatory))))))))

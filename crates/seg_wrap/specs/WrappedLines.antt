@@ -8,18 +8,23 @@ use Rattle.seg_lines.specs.Lines.{line_rules}
 use Rattle.seg_wrap.specs.declared.wrap.LineWrapper.{LineWrapper}
 use Rattle.seg_wrap.specs.declared.wrap.WrappedLine.{WrappedLine}
 use Rattle.seg_wrap.specs.declared.wrap.WrapIterator.{WrapIterator}
+use Rattle.seg_wrap.specs.declared.wrap.wrapping.Room.{Room}
 use Rattle.seg_wrap.specs.declared.wrap.WrappedUtf8Line.{WrappedUtf8Line}
 use Rattle.seg_wrap.specs.declared.wrap.WrapUtf8Iterator.{WrapUtf8Iterator}
 use Rattle.seg_wrap.specs.declared.wrap.utf16.WrappedUtf16Line.{WrappedUtf16Line}
 use Rattle.seg_wrap.specs.declared.wrap.utf16.WrapUtf16Iterator.{WrapUtf16Iterator}
 use Rattle.seg_wrap.specs.Paragraphs.{ParagraphsLeft}
 use Rattle.seg_wrap.specs.Walk.{measure_of}
-use Rattle.seg_wrap.specs.Wrapping.{Measure, TextLine, segments_of, text_lines, wrapped_lines}
+use Rattle.seg_wrap.specs.Wrapping.{Measure, TextLine, even, segments_of, text_lines, wrapped_lines}
 
--- the lines of a text that stands in some units, which this decodes, so measured, wrapped to so many columns at the breaks that these rules find
+-- the lines of a text that stands in some units, which this decodes, so measured, wrapped to these columns at the breaks that these rules find
+abbrev pub wrapped_within : (List ℕ → Text) → Measure → LineRules → Room → List ℕ → List TextLine
+wrapped_within decode measure rules room units =
+    text_lines units (decode units) (wrapped_lines room (segments_of measure (decode units) (line_boundaries_of rules (decode units))))
+
+-- and to as many columns in each line
 abbrev pub wrapped_units : (List ℕ → Text) → Measure → LineRules → ℕ → List ℕ → List TextLine
-wrapped_units decode measure rules limit units =
-    text_lines units (decode units) (wrapped_lines limit (segments_of measure (decode units) (line_boundaries_of rules (decode units))))
+wrapped_units decode measure rules limit units = wrapped_within decode measure rules (even limit) units
 
 -- the wrapped lines of possibly ill-formed UTF-8
 abbrev pub wrapped_text : Measure → LineRules → ℕ → List ℕ → List TextLine
@@ -47,13 +52,13 @@ wrapper_measure wrapper = measure_of wrapper.measuring
 
 -- a line that was given
 abbrev pub line_in : WrappedLine → TextLine
-line_in line = record { units = line.text.now; columns = line.columns; is_mandatory = line.is_mandatory }
+line_in line = record { units = line.text.now; columns = line.columns; is_first = line.is_first; is_mandatory = line.is_mandatory }
 
 abbrev pub utf8_line_in : WrappedUtf8Line → TextLine
-utf8_line_in line = record { units = line.bytes.now; columns = line.columns; is_mandatory = line.is_mandatory }
+utf8_line_in line = record { units = line.bytes.now; columns = line.columns; is_first = line.is_first; is_mandatory = line.is_mandatory }
 
 abbrev pub utf16_line_in : WrappedUtf16Line → TextLine
-utf16_line_in line = record { units = line.units.now; columns = line.columns; is_mandatory = line.is_mandatory }
+utf16_line_in line = record { units = line.units.now; columns = line.columns; is_first = line.is_first; is_mandatory = line.is_mandatory }
 
 -- the lines that an iterator has still to give
 abbrev pub lines_to_come : WrapIterator → List TextLine

@@ -1,5 +1,5 @@
 -- Lines of a text, wrapped to so many columns.
-use Rattle.std.specs.Prelude.{ℕ, ◌+◌, ◌==◌, ◌||◌, nat_lt, Bool, false, List, [], ◌∷◌, ◌++◌, drop, take, length, if◌then◌else◌, ◌≡◌, ◌<◌, ◌≤◌, map, encode_utf8_all}
+use Rattle.std.specs.Prelude.{ℕ, ◌+◌, ◌-◌, ◌==◌, ◌||◌, nat_lt, Bool, true, false, List, [], ◌∷◌, ◌++◌, drop, take, length, if◌then◌else◌, ◌≡◌, ◌<◌, ◌≤◌, map, encode_utf8_all}
 use Rattle.std.specs.List.{list_all, prefix_len}
 use Rattle.std.specs.Option.{unwrap_or}
 use Rattle.unicode_width.specs.Width.{char_width, str_width}
@@ -8,6 +8,7 @@ use Rattle.seg_text.specs.Decoding.{character_of, utf8}
 use Rattle.seg_text.specs.Items.{Item, Text, code_points, rest_after, start_of}
 use Rattle.seg_clusters.specs.Rules.{Rules, boundaries_by}
 use Rattle.seg_lines.specs.Between.{between}
+use Rattle.seg_wrap.specs.declared.wrap.wrapping.Room.{Room}
 
 -- ---- columns
 
@@ -111,37 +112,53 @@ segments_from measure text (boundary ∷ boundaries) =
 abbrev pub segments_of : Measure → Text → List Boundary → List Segment
 segments_of measure text boundaries = segments_from measure text (drop 1 boundaries)
 
--- a line: its characters, its columns, and whether it ends where a line must
+-- a line: its characters, its columns, whether it is the first of its paragraph, and whether it ends where a line must
 pub record Line : Type 0 where
   pub characters : List ℕ
   pub columns : ℕ
+  pub is_first : Bool
   pub is_mandatory : Bool
 
-abbrev pub line_of : Segment → Line
-line_of line = record { characters = line.characters; columns = columns_of line.cells; is_mandatory = line.is_mandatory }
+-- segments as a line, which is the first of its paragraph or not
+abbrev pub line_of : Bool → Segment → Line
+line_of is_first line =
+    record { characters = line.characters; columns = columns_of line.cells; is_first = is_first; is_mandatory = line.is_mandatory }
 
 -- a line of so many columns ends before the next segment: where it must, or where it would be too wide with it
 abbrev pub ends_before : ℕ → Segment → Segment → Bool
 ends_before limit line next = line.is_mandatory || nat_lt limit (columns_of (line.cells ++ next.cells))
 
--- the lines from one on that has begun with some segments: each takes segments as long as it may
-unfoldable pub lines_from : ℕ → Segment → List Segment → List Line
-lines_from limit line [] = line_of line ∷ []
-lines_from limit line (next ∷ segments) =
-    if ends_before limit line next then line_of line ∷ lines_from limit next segments
-    else lines_from limit (as_one line next) segments
+-- the columns of a line, which is the first of its paragraph or not
+abbrev pub columns_in : Room → Bool → ℕ
+columns_in room is_first = if is_first then room.first else room.others
 
--- the lines of these segments, wrapped to so many columns
-abbrev pub wrapped_lines : ℕ → List Segment → List Line
-wrapped_lines limit [] = []
-wrapped_lines limit (first ∷ segments) = lines_from limit first segments
+-- as many in each line
+abbrev pub even : ℕ → Room
+even columns = record { first = columns; others = columns }
+
+-- what so many columns leave beside these indents, as possibly ill-formed UTF-8
+abbrev pub room_beside : ℕ → List ℕ → List ℕ → Room
+room_beside columns first others = record { first = columns - bytes_columns first; others = columns - bytes_columns others }
+
+-- the lines from one on that has begun with some segments, a first one or not: each takes segments as long as it may
+unfoldable pub lines_from : Room → Bool → Segment → List Segment → List Line
+lines_from room is_first line [] = line_of is_first line ∷ []
+lines_from room is_first line (next ∷ segments) =
+    if ends_before (columns_in room is_first) line next then line_of is_first line ∷ lines_from room line.is_mandatory next segments
+    else lines_from room is_first (as_one line next) segments
+
+-- the lines of these segments, wrapped to these columns: a paragraph begins at the start, and after each line that must end
+abbrev pub wrapped_lines : Room → List Segment → List Line
+wrapped_lines room [] = []
+wrapped_lines room (first ∷ segments) = lines_from room true first segments
 
 -- ---- lines of units
 
--- a line of a text: the units that it stands in, its columns, and whether it ends where a line must
+-- a line of a text: the units that it stands in, its columns, whether it is the first of its paragraph, and whether it ends where a line must
 pub record TextLine : Type 0 where
   pub units : List ℕ
   pub columns : ℕ
+  pub is_first : Bool
   pub is_mandatory : Bool
 
 -- lines of a text that stands in these units, one after another: each has an item for each of its characters
@@ -149,7 +166,7 @@ unfoldable pub text_lines : List ℕ → Text → List Line → List TextLine
 text_lines units text [] = []
 text_lines units text (line ∷ lines) =
     let rest = rest_after (length line.characters) text in
-    record { units = between (start_of text) (start_of rest) units; columns = line.columns; is_mandatory = line.is_mandatory }
+    record { units = between (start_of text) (start_of rest) units; columns = line.columns; is_first = line.is_first; is_mandatory = line.is_mandatory }
     ∷ text_lines units rest lines
 
 -- Wrapped lines in their own words: which lists of lines there may be.
@@ -185,19 +202,21 @@ pub record IsLine (limit : ℕ) (line : Parts) (after : List Segment) : Type 0 w
   pub full : (next : Segment) (later : List Segment) → after ≡ next ∷ later → (whole_of line).is_mandatory ≡ false
       → limit < columns_of ((whole_of line).cells ++ next.cells)
 
--- lines that take all these segments, in order
-unfoldable pub AreLines : ℕ → List Segment → List Parts → Type 0
-AreLines limit segments [] = segments ≡ []
-AreLines limit segments (line ∷ lines) =
-    (after : List Segment) × ((segments ≡ parts_of line ++ after) × (IsLine limit line after × AreLines limit after lines))
+-- lines that take all these segments, in order, of which the first begins a paragraph or not
+unfoldable pub AreLines : Room → Bool → List Segment → List Parts → Type 0
+AreLines room is_first segments [] = segments ≡ []
+AreLines room is_first segments (line ∷ lines) =
+    (after : List Segment)
+    × ((segments ≡ parts_of line ++ after) × (IsLine (columns_in room is_first) line after × AreLines room (whole_of line).is_mandatory after lines))
 
--- they are the wrapped lines
-abbrev pub lines_of : List Parts → List Line
-lines_of lines = map (λ line. line_of (whole_of line)) lines
+-- these as lines, of which the first begins a paragraph or not
+unfoldable pub lines_of : Bool → List Parts → List Line
+lines_of is_first [] = []
+lines_of is_first (line ∷ lines) = line_of is_first (whole_of line) ∷ lines_of (whole_of line).is_mandatory lines
 
 -- there is one such list of lines for each list of segments, and its lines are the wrapped lines
-pub record HasOneWrapping (limit : ℕ) (segments : List Segment) : Type 0 where
+pub record HasOneWrapping (room : Room) (segments : List Segment) : Type 0 where
   pub lines : List Parts
-  pub are : AreLines limit segments lines
-  pub wrapped : lines_of lines ≡ wrapped_lines limit segments
-  pub only : (others : List Parts) → AreLines limit segments others → others ≡ lines
+  pub are : AreLines room true segments lines
+  pub wrapped : lines_of true lines ≡ wrapped_lines room segments
+  pub only : (others : List Parts) → AreLines room true segments others → others ≡ lines

@@ -2,14 +2,16 @@
 
 ghost use Rattle.std.specs.Prelude.{◌≡◌, ℕ, List, map};
 ghost use Rattle.seg_balance.specs.Balanced.{line_columns};
+ghost use Rattle.seg_wrap.specs.declared.wrap.wrapping.Room.{Room};
 ghost use Rattle.seg_wrap.specs.Paragraphs.{joined, measured};
 ghost use Rattle.seg_wrap.specs.Wrapping.{Segment, HasOneWrapping, columns_of};
 
 /// Law: the wrapped lines are the one list of lines that keeps four rules. Each line is one or more whole segments, and together they are
-/// all. A line ends at each segment that is mandatory. A line of more than one segment has at most the columns. A line that ends anywhere
-/// else than there and at the end of the text would have more with the next segment.
+/// all. A line ends at each segment that is mandatory. A line of more than one segment has at most its columns: those of first lines at the
+/// start and after a line that must end, and else those of other lines. A line that ends anywhere else than there and at the end of the text would
+/// have more with the next segment.
 pub fn wrapped_lines_are_one()
-    ensures { (limit : ℕ) (segments : List Segment) → HasOneWrapping limit segments }
+    ensures { (room : Room) (segments : List Segment) → HasOneWrapping room segments }
 {}
 
 /// Law: balanced lines are chosen by the columns that wrapped lines have: a line of measured segments has those of all its cells, without

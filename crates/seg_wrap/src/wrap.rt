@@ -21,7 +21,7 @@ mod wrapping;
 use crate::wrap::balanced::BalancedParagraphs;
 use crate::wrap::extent::Extent;
 use crate::wrap::measure::Measuring;
-use crate::wrap::wrapping::{Setting, Wrapping};
+use crate::wrap::wrapping::Wrapping;
 use seg_clusters::grapheme::GraphemeClusterSegmenterBorrowed;
 use seg_lines::line::LineSegmenterBorrowed;
 use seg_text::indices::{StrCharIndices, Utf8CharIndices};
@@ -29,7 +29,7 @@ use std::alloc::AllocError;
 use std::fmt;
 use thiserror::Error;
 pub use utf16::{WrapUtf16Iterator, WrappedUtf16Line};
-pub use wrapping::Span;
+pub use wrapping::{Room, Span};
 
 /// Why there is no wrapper. Each has a number.
 #[derive(Clone, Copy, Debug, PartialEq, Eq, Error)]
@@ -57,7 +57,7 @@ impl<'data> fmt::Debug for LineWrapper<'data> {
 }
 
 impl<'data> LineWrapper<'data> {
-    ghost use Rattle.seg_wrap.specs.WrappedLines.{joined_units, lines_to_come, paragraphs_of, utf8_lines_to_come, wrapped_text, wrapper_measure, wrapper_rules};
+    ghost use Rattle.seg_wrap.specs.WrappedLines.{joined_units, lines_to_come, paragraphs_of, utf8_lines_to_come, wrapped_text, wrapped_within, wrapper_measure, wrapper_rules};
 
     /// A wrapper by the breaks that a machine finds, and by the widths of characters. `NotNeo` where a pair table finds the breaks.
     pub fn new(lines: LineSegmenterBorrowed<'data>) -> Result<Self, WrapError>
@@ -88,27 +88,25 @@ impl<'data> LineWrapper<'data> {
         }
     }
 
-    // To so many columns, counted as the wrapper does.
-    pub(crate) fn setting(self, columns: usize) -> Setting<'data>
-        ensures columns { result.columns ≡ columns }
-        ensures measure { measure_of result.measuring ≡ wrapper_measure self.entry }
-    {
-        Setting {
-            columns,
-            measuring: self.measuring,
-        }
-    }
-
     /// The lines of a text, each of at most these columns unless it is one segment. Takes no memory.
     pub fn wrap_str<'s>(self, text: &'s str, columns: usize) -> WrapIterator<'data, 's>
         ensures lines { lines_to_come result ≡ wrapped_text (wrapper_measure self.entry) (wrapper_rules self.entry) columns text.now }
+        ensures joined { joined_units (lines_to_come result) ≡ text.now }
+    {
+        self.wrap_str_within(text, Room::even(columns))
+    }
+
+    /// The lines of a text where the first line of each paragraph has other columns than the rest, for a caller that indents them. Each has
+    /// at most its columns unless it is one segment. Takes no memory.
+    pub fn wrap_str_within<'s>(self, text: &'s str, room: Room) -> WrapIterator<'data, 's>
+        ensures lines { lines_to_come result ≡ wrapped_within utf8 (wrapper_measure self.entry) (wrapper_rules self.entry) room text.now }
         ensures joined { joined_units (lines_to_come result) ≡ text.now }
     {
         let mut breaks = self.lines.segment_str(text);
         let _start = breaks.next();
         WrapIterator {
             text,
-            lines: Wrapping::new(breaks, StrCharIndices::new(text), self.setting(columns)),
+            lines: Wrapping::new(breaks, StrCharIndices::new(text), room, self.measuring),
         }
     }
 
@@ -118,11 +116,20 @@ impl<'data> LineWrapper<'data> {
         ensures lines { utf8_lines_to_come result ≡ wrapped_text (wrapper_measure self.entry) (wrapper_rules self.entry) columns bytes.now }
         ensures joined { joined_units (utf8_lines_to_come result) ≡ bytes.now }
     {
+        self.wrap_utf8_within(bytes, Room::even(columns))
+    }
+
+    /// The lines of possibly ill-formed UTF-8 where the first line of each paragraph has other columns than the rest, for a caller that indents
+    /// them. Each has at most its columns unless it is one segment. Takes no memory.
+    pub fn wrap_utf8_within<'s>(self, bytes: &'s [u8], room: Room) -> WrapUtf8Iterator<'data, 's>
+        ensures lines { utf8_lines_to_come result ≡ wrapped_within utf8 (wrapper_measure self.entry) (wrapper_rules self.entry) room bytes.now }
+        ensures joined { joined_units (utf8_lines_to_come result) ≡ bytes.now }
+    {
         let mut breaks = self.lines.segment_utf8(bytes);
         let _start = breaks.next();
         WrapUtf8Iterator {
             bytes,
-            lines: Wrapping::new(breaks, Utf8CharIndices::new(bytes), self.setting(columns)),
+            lines: Wrapping::new(breaks, Utf8CharIndices::new(bytes), room, self.measuring),
         }
     }
 
@@ -167,6 +174,7 @@ pub fn utf8_columns(bytes: &[u8]) -> u128
 pub struct WrappedLine<'s> {
     text: &'s str,
     columns: u128,
+    is_first: bool,
     is_mandatory: bool,
 }
 
@@ -185,6 +193,13 @@ impl<'s> WrappedLine<'s> {
         ensures { result ≡ (line_in self.now).columns }
     {
         self.columns
+    }
+
+    /// Whether it is the first line of its paragraph: of the text, or after a line that must end.
+    pub fn is_first(&self) -> bool
+        ensures { result ≡ (line_in self.now).is_first }
+    {
+        self.is_first
     }
 
     /// Whether a line must end there: at a mandatory break.
@@ -242,6 +257,7 @@ impl<'data, 's> Iterator for WrapIterator<'data, 's> {
         Some(WrappedLine {
             text: part(self.text, line.start, line.end),
             columns: line.columns,
+            is_first: line.is_first,
             is_mandatory: line.is_mandatory,
         })
     }
@@ -266,6 +282,7 @@ fn part<'s>(text: &'s str, start: usize, end: usize) -> &'s str
 pub struct WrappedUtf8Line<'s> {
     bytes: &'s [u8],
     columns: u128,
+    is_first: bool,
     is_mandatory: bool,
 }
 
@@ -284,6 +301,13 @@ impl<'s> WrappedUtf8Line<'s> {
         ensures { result ≡ (utf8_line_in self.now).columns }
     {
         self.columns
+    }
+
+    /// Whether it is the first line of its paragraph: of the text, or after a line that must end.
+    pub fn is_first(&self) -> bool
+        ensures { result ≡ (utf8_line_in self.now).is_first }
+    {
+        self.is_first
     }
 
     /// Whether a line must end there: at a mandatory break.
@@ -341,6 +365,7 @@ impl<'data, 's> Iterator for WrapUtf8Iterator<'data, 's> {
         Some(WrappedUtf8Line {
             bytes: &self.bytes[line.start..line.end],
             columns: line.columns,
+            is_first: line.is_first,
             is_mandatory: line.is_mandatory,
         })
     }

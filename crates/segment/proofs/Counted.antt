@@ -2,7 +2,7 @@
 use Rattle.std.proofs.Common.{◌≡◌, ℕ, Option, None, Some, List, IfErr, IfOk, IfSome, Result, Ok, Err, ◌⊎◌, inl, inr, refl, ap, ap₂, length, subst, ◌∙◌, sym, ◌++◌, append-nil}
 use Rattle.std.proofs.KnownBytes.{Appends-trans}
 use Rattle.std.specs.Io.KnownBytes.{Appends}
-use Rattle.segment_output.specs.Fault.{IsReadFault}
+use Rattle.segment_text.specs.Fault.{IsReadFault}
 use Rattle.segment_output.specs.Output.{count_line}
 use Rattle.segment_output.specs.Output.{Look, lines_at}
 use Rattle.segment_output.specs.Parts.{IsBegun, count_for, found_for, output_for, printed_behind, text_for}
@@ -14,7 +14,7 @@ use Rattle.segment_output.specs.Wrapper.{wrapping_of}
 use Rattle.segment_output.proofs.JoinedCuts.{lines-at_zero}
 use Rattle.segment_text.specs.Size.{size_of}
 use Rattle.segment.specs.Job.{count_by, numbers_of, said_by, text_of, IsBegunBy, IsDoneBy, IsOutputOf, IsPrintedBy, IsPrintingOf, IsTally, IsWorkOutput}
-use Rattle.segment_output.specs.declared.fault.Fault.{Fault}
+use Rattle.segment_text.specs.declared.fault.Fault.{Fault}
 use Rattle.segment_text.specs.declared.size.Size.{Size}
 use Rattle.segment_text.specs.declared.size.Tally.{Tally}
 use Rattle.segment_output.specs.declared.output.Numbers.{Numbers}

@@ -1,7 +1,7 @@
 -- What the words of the command line ask for.
-use Rattle.std.specs.Prelude.{◌≡◌, ◌≢◌, ℕ, ◌<◌, ◌^◌, ◌==◌, Bool, true, false, Option, None, Some, List, [], length, codes, MatchOption, IfSome}
-use Rattle.std.specs.List.{before_first}
-use Rattle.std.specs.Option.{option_map, option_map_or}
+use Rattle.std.specs.Prelude.{◌≡◌, ◌≢◌, ℕ, ◌<◌, ◌^◌, ◌==◌, ◌||◌, nat_lt, Bool, true, false, Option, None, Some, List, [], length, codes, MatchOption, IfSome}
+use Rattle.std.specs.List.{before_first, list_any}
+use Rattle.std.specs.Option.{option_map, option_map_or, unwrap_or}
 use Rattle.std.specs.Str.{str_to_ascii_lowercase}
 use Rattle.std.specs.Str.Parse.{IsNumeral, digits_value}
 use Rattle.clap.specs.Matches.{first_value, matched_of, one_text, raw_values}
@@ -10,6 +10,7 @@ use Rattle.icu_segmenter.specs.declared.options.LineBreakStrictness.{LineBreakSt
 use Rattle.icu_segmenter.specs.declared.options.LineBreakStrictness.TheVariants as strictness
 use Rattle.icu_segmenter.specs.declared.options.LineBreakWordOption.{LineBreakWordOption}
 use Rattle.icu_segmenter.specs.declared.options.LineBreakWordOption.TheVariants as word_option
+use Rattle.icu_segmenter.specs.Wrapping.{bytes_columns}
 use Rattle.icu_segmenter.specs.declared.provider.ComplexScript.{ComplexScript}
 use Rattle.icu_segmenter.specs.declared.provider.ComplexScript.TheVariants as script
 use Rattle.segment_output.specs.declared.segmenter.Engine.{Engine}
@@ -96,10 +97,25 @@ AreColumns found columns =
     × ((digits : List ℕ) → one_text found (codes "width") ≡ None → one_text found (codes "columns") ≡ Some digits → IsSaid digits columns)
     × ((digits : List ℕ) → one_text found (codes "width") ≡ Some digits → IsSaid digits columns)
 
+-- indents are those that are named, that of first lines the other's where it isn't
+abbrev pub AreIndents : Found → List ℕ → List ℕ → Type 0
+AreIndents found first others =
+    (others ≡ unwrap_or (first_value found (codes "indent")) []) × (first ≡ unwrap_or (first_value found (codes "first-indent")) others)
+
+-- control characters of ASCII
+abbrev pub is_control : ℕ → Bool
+is_control byte = nat_lt byte 0x20 || (byte == 0x7F)
+
+-- an indent has none, and leaves a column or more
+abbrev pub IsIndent : ℕ → List ℕ → Type 0
+IsIndent columns indent = (list_any is_control indent ≡ false) × (bytes_columns indent < columns)
+
 -- a width is the one that is named, of some columns
 abbrev pub IsWidth : Found → Width → Type 0
 IsWidth found width =
     AreColumns found width.columns × (0 < width.columns)
+    × AreIndents found width.first_indent.now width.indent.now
+    × IsIndent width.columns width.first_indent.now × IsIndent width.columns width.indent.now
     × IsFlag found (codes "break-words") width.breaks_words
     × IsFlag found (codes "by-cluster") width.by_cluster
 
@@ -132,6 +148,10 @@ IsStyle found Escaped =
     IsFlag found (codes "count") false × IsFlag found (codes "offsets") false × IsFlag found (codes "null") false
     × IsFlag found (codes "json") false × IsFlag found (codes "raw") false
 
+-- both indents have as many columns
+abbrev pub HasEvenIndents : Width → Type 0
+HasEvenIndents width = bytes_columns width.first_indent.now ≡ bytes_columns width.indent.now
+
 -- a task is the one that is named
 abbrev pub IsTask : List ℕ → Found → Task → Type 0
 IsTask word found (Cut kind style engine) =
@@ -140,7 +160,7 @@ IsTask word found (Cut kind style engine) =
     × IsStyle found style
     × IsEngine (first_value found (codes "engine")) engine
 IsTask word found (Wrap width) = (word ≡ codes "wrap") × IsFlag found (codes "balanced") false × IsWidth found width
-IsTask word found (Balance width) = (word ≡ codes "wrap") × IsFlag found (codes "balanced") true × IsWidth found width
+IsTask word found (Balance width) = (word ≡ codes "wrap") × IsFlag found (codes "balanced") true × IsWidth found width × HasEvenIndents width
 
 -- all values of an argument
 abbrev pub values_of : Found → List ℕ → List (List ℕ)

@@ -34,7 +34,7 @@ pub enum Place {
 /// are a folder's name that isn't UTF-8, and being out of memory.
 pub fn place_of<R: AllocGlobal + Env>(
     rt: &R,
-    request: &Request,
+    request: &Request<'_>,
     matches: &ArgMatches<'_>,
 ) -> Result<Place> {
     let folder = match listed_language(request) {
@@ -45,7 +45,7 @@ pub fn place_of<R: AllocGlobal + Env>(
 }
 
 // The language whose list is asked for: that of sentences.
-fn listed_language(request: &Request) -> Option<&LanguageIdentifier>
+fn listed_language<'r>(request: &'r Request<'_>) -> Option<&'r LanguageIdentifier>
     ensures { option_map (λ language. language.now) result ≡ listed_language request.now }
 {
     match request.task {
@@ -57,7 +57,7 @@ fn listed_language(request: &Request) -> Option<&LanguageIdentifier>
 // The file that is named, or the list of the language in the folder. Fails only when out of memory.
 fn named_place(
     alloc: Global,
-    request: &Request,
+    request: &Request<'_>,
     matches: &ArgMatches<'_>,
     folder: Option<&str>,
 ) -> Result<Place, AllocError>

@@ -12,6 +12,8 @@ enum Value<'a> {
     Flag,
     // A text, and what help calls it.
     Text(&'a str),
+    // A text that may begin with a hyphen.
+    AnyText(&'a str),
     // A text each time that it is given.
     Texts(&'a str),
     // A number of columns.
@@ -156,6 +158,8 @@ const WRAPPED: &[Argument<'static>] = arguments! {
     "tabs" Columns: "Write spaces for each tab, up to the next multiple of so many columns [default: 8]";
     "join" Flag: "Join the lines between blank lines first, each two by a space";
     "balanced" Flag: "Leave the least ragged edge, paragraph by paragraph";
+    "indent" AnyText("TEXT"): "What stands before each line, whose columns count";
+    "first-indent" AnyText("TEXT"): "What stands before the first line of each paragraph in its place";
     "break-words" Flag: "Break what is wider than the columns between clusters";
     "by-cluster" Flag: "Count the columns of each cluster, and not of each character";
 };
@@ -305,6 +309,7 @@ fn argument_of<'a>(alloc: Global, argument: &Argument<'a>) -> Result<Arg<'a>, Al
         .value_name(value_name(argument))
         .value_parser(parser_of(argument.value))
         .help(argument.help)
+        .allow_hyphen_values(matches!(argument.value, Value::AnyText(_)))
         .requires_all(argument.needs)?
         .conflicts_with_all(argument.conflicts)
 }
@@ -313,14 +318,14 @@ fn action_of(value: Value<'_>) -> ArgAction {
     match value {
         Value::Flag => ArgAction::SetTrue,
         Value::Texts(_) | Value::EachOf(_) => ArgAction::Append,
-        Value::Text(_) | Value::Columns | Value::OneOf(_) => ArgAction::Set,
+        Value::Text(_) | Value::AnyText(_) | Value::Columns | Value::OneOf(_) => ArgAction::Set,
     }
 }
 
 // What help calls the value.
 fn value_name<'a>(argument: &Argument<'a>) -> &'a str {
     match argument.value {
-        Value::Text(name) | Value::Texts(name) => name,
+        Value::Text(name) | Value::AnyText(name) | Value::Texts(name) => name,
         Value::Columns => "COLUMNS",
         Value::Flag | Value::OneOf(_) | Value::EachOf(_) => argument.name,
     }
@@ -329,7 +334,7 @@ fn value_name<'a>(argument: &Argument<'a>) -> &'a str {
 fn parser_of<'a>(value: Value<'a>) -> ValueParser<'a> {
     match value {
         Value::Flag => value_parser!(bool),
-        Value::Text(_) | Value::Texts(_) => value_parser!(String),
+        Value::Text(_) | Value::AnyText(_) | Value::Texts(_) => value_parser!(String),
         Value::Columns => value_parser!(usize),
         Value::OneOf(words) | Value::EachOf(words) => words.into(),
     }

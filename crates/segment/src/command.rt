@@ -6,12 +6,14 @@ ghost use Rattle.std.specs.Str.{str_to_ascii_lowercase};
 ghost use Rattle.icu_segmenter.specs.declared.provider.ComplexScript.{ComplexScript as AnyScript};
 ghost use Rattle.clap.specs.Matches.{found_of};
 ghost use Rattle.segment_output.specs.declared.segmenter.Kind.{Kind as AnyKind};
-ghost use Rattle.segment.specs.Command.{is_alone, kind_word, language_part, strictness_word, word_break_word, ArePaired, HasScriptWord, IsChoice, IsEngine, IsRequest, IsStyle, IsTask, IsWidth, AreColumns, AreNumbers, AreTabs, IsPreparation};
+ghost use Rattle.segment.specs.declared.command.Task.TheVariants.{Balance};
+ghost use Rattle.segment.specs.Command.{is_alone, is_control, kind_word, language_part, strictness_word, word_break_word, ArePaired, HasEvenIndents, HasScriptWord, IsChoice, IsEngine, IsRequest, IsStyle, IsTask, IsIndent, IsWidth, AreColumns, AreNumbers, AreTabs, IsPreparation};
 
 use anyhow::{Context, Result, bail, ensure};
 use clap::ArgMatches;
 use icu_segmenter::options::{LanguageIdentifier, LineBreakStrictness, LineBreakWordOption};
 use icu_segmenter::provider::ComplexScript;
+use icu_segmenter::wrap::utf8_columns;
 use segment_output::output::{Numbers, Style};
 use segment_output::segmenter::{Engine, Kind};
 use segment_output::wrapper::Width;
@@ -19,22 +21,22 @@ use segment_text::preparation::Preparation;
 
 /// What is done to a text.
 #[derive(Clone, Copy)]
-pub enum Task {
+pub enum Task<'a> {
     /// It is cut into segments: what is found, how it is written, and what finds the boundaries.
     Cut(Kind, Style, Engine),
     /// Its lines are wrapped.
-    Wrap(Width),
+    Wrap(Width<'a>),
     /// Its lines are balanced.
-    Balance(Width),
+    Balance(Width<'a>),
 }
 
 /// What the command line asks for.
 #[derive(Drop)]
-pub struct Request {
+pub struct Request<'a> {
     /// What is done to each text first.
     pub preparation: Preparation,
     /// What is done.
-    pub task: Task,
+    pub task: Task<'a>,
     /// Of lines, how strict they are.
     pub strictness: Option<LineBreakStrictness>,
     /// Of lines, whether they break within words.
@@ -72,9 +74,10 @@ const DEFAULT_COLUMNS: usize = 80;
 // Of tabs before lines are wrapped, where the command line says nothing.
 const DEFAULT_TABS: usize = 8;
 
-/// What the arguments of a kind of segments ask for. The errors are a word that isn't a kind, lines or tabs without columns, a language that
-/// isn't one, a dictionary without a script, and a script that is named twice.
-pub fn request_of(kind: &str, matches: &ArgMatches<'_>) -> Result<Request>
+/// What the arguments of a kind of segments ask for. The errors are a word that isn't a kind, lines or tabs without columns, an indent that
+/// leaves none or has control characters, balanced lines whose indents differ in columns, a language that isn't one, a dictionary without a
+/// script, and a script that is named twice.
+pub fn request_of<'a>(kind: &str, matches: &ArgMatches<'a>) -> Result<Request<'a>>
     ensures { IfOk result (IsRequest kind.now (found_of matches.now)) }
 {
     check_dictionaries(matches)?;
@@ -123,13 +126,13 @@ fn check_scripts(scripts: &[&str]) -> Result<()> {
     Ok(())
 }
 
-fn task_of(kind: &str, matches: &ArgMatches<'_>) -> Result<Task>
+fn task_of<'a>(kind: &str, matches: &ArgMatches<'a>) -> Result<Task<'a>>
     ensures { IfOk result (IsTask kind.now (found_of matches.now)) }
 {
     if kind == "wrap" {
         let width = width_of(matches)?;
         return match matches.get_flag("balanced") {
-            true => Ok(Task::Balance(width)),
+            true => balanced_to(width),
             false => Ok(Task::Wrap(width)),
         };
     }
@@ -138,17 +141,58 @@ fn task_of(kind: &str, matches: &ArgMatches<'_>) -> Result<Task>
     Ok(Task::Cut(kind, style_of(matches), engine))
 }
 
-// The error is a line without columns.
-fn width_of(matches: &ArgMatches<'_>) -> Result<Width>
+// The error is indents of different columns.
+fn balanced_to(width: Width<'_>) -> Result<Task<'_>>
+    ensures { IfOk result (λ task. (task ≡ Balance width.entry) × HasEvenIndents width.entry) }
+{
+    let first = utf8_columns(width.first_indent.as_bytes());
+    let others = utf8_columns(width.indent.as_bytes());
+    ensure!(
+        first == others,
+        "'--balanced' needs indents of as many columns each"
+    );
+    Ok(Task::Balance(width))
+}
+
+// The errors are a line without columns, and an indent that leaves none or has control characters.
+fn width_of<'a>(matches: &ArgMatches<'a>) -> Result<Width<'a>>
     ensures { IfOk result (IsWidth (found_of matches.now)) }
 {
     let columns = columns_of(matches);
     ensure!(columns > 0, "lines have at least 1 column");
+    let indent = matches.get_str("indent").unwrap_or("");
+    let first_indent = matches.get_str("first-indent").unwrap_or(indent);
+    check_indent(indent, columns)?;
+    check_indent(first_indent, columns)?;
     Ok(Width {
         columns,
+        first_indent,
+        indent,
         breaks_words: matches.get_flag("break-words"),
         by_cluster: matches.get_flag("by-cluster"),
     })
+}
+
+// The errors are an indent that leaves a line no column, and one that has control characters.
+fn check_indent(indent: &str, columns: usize) -> Result<()>
+    ensures { OnOk result (IsIndent columns indent.now) }
+{
+    ensure!(
+        !indent.as_bytes().iter().any(|byte| is_control(*byte)),
+        "an indent has no tabs nor other control characters"
+    );
+    ensure!(
+        utf8_columns(indent.as_bytes()) < columns as u128,
+        "lines have at least 1 column behind an indent"
+    );
+    Ok(())
+}
+
+// Whether a byte is a control character of ASCII.
+fn is_control(byte: u8) -> bool
+    ensures { result ≡ is_control byte }
+{
+    byte < b' ' || byte == 0x7F
 }
 
 fn columns_of(matches: &ArgMatches<'_>) -> usize

@@ -19,7 +19,7 @@ use std::rt::{Env, Files};
 /// being out of memory.
 pub fn dictionaries_of<R: AllocGlobal + Files + Env>(
     rt: &R,
-    task: Task,
+    task: Task<'_>,
     matches: &ArgMatches<'_>,
 ) -> Result<Dictionaries> {
     let mut dictionaries = named_dictionaries(rt, matches)?;

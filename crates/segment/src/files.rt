@@ -2,8 +2,8 @@
 
 use crate::job::Job;
 use crate::run::run;
-use segment_output::fault::Fault;
 use segment_output::output::write_count;
+use segment_text::fault::Fault;
 use segment_text::size::{Size, Tally};
 use std::io::ErrorKind;
 use std::process::ExitCode;

@@ -58,7 +58,7 @@ impl Job {
 }
 
 /// What a request asks for, with these words where its kind of segments has some. Fails only when out of memory.
-pub fn job_of(alloc: Global, request: &Request, words: Vocabulary) -> Result<Job>
+pub fn job_of(alloc: Global, request: &Request<'_>, words: Vocabulary) -> Result<Job>
     ensures { IfOk result (λ job. IsAsked request.now (script_words words.dictionaries) (option_map abbreviations_of words.abbreviations) job) }
 {
     let work = work_of(alloc, request, words)?;
@@ -69,7 +69,7 @@ pub fn job_of(alloc: Global, request: &Request, words: Vocabulary) -> Result<Job
     })
 }
 
-fn work_of(alloc: Global, request: &Request, words: Vocabulary) -> Result<Work>
+fn work_of(alloc: Global, request: &Request<'_>, words: Vocabulary) -> Result<Work>
     ensures { IfOk result (λ work. IsAskedWork request.now (script_words words.dictionaries) (option_map abbreviations_of words.abbreviations) work) }
 {
     match request.task {
@@ -83,7 +83,12 @@ fn work_of(alloc: Global, request: &Request, words: Vocabulary) -> Result<Work>
 }
 
 // The wrapper to a width that a request asks for.
-fn wrapper_by(alloc: Global, width: Width, request: &Request, words: Vocabulary) -> Result<Wrapper>
+fn wrapper_by(
+    alloc: Global,
+    width: Width<'_>,
+    request: &Request<'_>,
+    words: Vocabulary,
+) -> Result<Wrapper>
     ensures { IfOk result (λ wrapper. (options : _) × AreOptions request.now options × IsAskedWrapper width options (script_words words.dictionaries) wrapper) }
 {
     let Vocabulary {
@@ -94,7 +99,7 @@ fn wrapper_by(alloc: Global, width: Width, request: &Request, words: Vocabulary)
 }
 
 // The options of lines that are asked for.
-fn options_of<'r>(request: &'r Request) -> LineBreakOptions<'r>
+fn options_of<'r>(request: &'r Request<'_>) -> LineBreakOptions<'r>
     ensures { AreOptions request.now result }
 {
     LineBreakOptions {

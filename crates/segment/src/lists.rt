@@ -32,7 +32,7 @@ pub trait ReadLists {
 }
 
 /// The lists that a task takes.
-pub fn choice_by(task: Task) -> Choice
+pub fn choice_by(task: Task<'_>) -> Choice
     ensures { result ≡ choice_by task }
 {
     match task {

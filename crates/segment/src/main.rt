@@ -137,7 +137,11 @@ fn refuse<E: std::fmt::Display>(rt: &HostRuntime, error: &E) -> Result<ExitCode>
 }
 
 // Reads the lists that a request takes, and does it to the files. A language whose list is in no folder is a wrong command line.
-fn run_request(rt: &HostRuntime, request: &Request, matches: &ArgMatches<'_>) -> Result<ExitCode> {
+fn run_request(
+    rt: &HostRuntime,
+    request: &Request<'_>,
+    matches: &ArgMatches<'_>,
+) -> Result<ExitCode> {
     let place = place_of(rt, request, matches)?;
     if let Place::InNoFolder = &place {
         return refuse(
@@ -156,7 +160,7 @@ fn run_request(rt: &HostRuntime, request: &Request, matches: &ArgMatches<'_>) ->
 // Does what a request asks for, with these words, to the files that are named.
 fn run_words(
     rt: &HostRuntime,
-    request: &Request,
+    request: &Request<'_>,
     words: Vocabulary,
     matches: &ArgMatches<'_>,
 ) -> Result<ExitCode> {

@@ -2,7 +2,7 @@
 ghost use Rattle.std.specs.Prelude.{◌≡◌, ◌⊎◌, option_map, IfErr, IfOk, IfSome, OnOk};
 ghost use Rattle.std.specs.Io.KnownBytes.{Appends, IsAtEnd};
 ghost use Rattle.segment_output.specs.Balanced.{AppendsSome, IsBalancedOutput};
-ghost use Rattle.segment_output.specs.Fault.{IsReadFault};
+ghost use Rattle.segment_text.specs.Fault.{IsReadFault};
 ghost use Rattle.segment_output.specs.Parts.{found_for, output_for};
 ghost use Rattle.segment_text.specs.Size.{size_of};
 ghost use Rattle.segment_output.specs.Wrapper.{wrapping_of};
@@ -10,10 +10,10 @@ ghost use Rattle.segment_text.specs.Preparation.{prepared};
 ghost use Rattle.segment.specs.Job.{said_by, IsBegunBy, IsOutputOf, IsPrintedBy, IsTally};
 
 use crate::job::{Job, Work};
-use segment_output::fault::Fault;
 use segment_output::output::write_count;
 use segment_output::parts::{Printing, Splitting, print_parts};
 use segment_output::wrapper::Wrapper;
+use segment_text::fault::Fault;
 use segment_text::preparation::Preparation;
 use segment_text::size::{Size, Tally};
 use std::alloc::Global;

@@ -107,12 +107,12 @@ unfolding AreLines
 no-segments limit segments [] none are = are
 no-segments limit segments (count ∷ counts) none are = absurd (omega (arith, ap length none))
 
-no-lines : (counts : List ℕ) (segments : List Segment) → length (lines_with counts segments) ≡ 0 → counts ≡ []
+no-lines : (counts : List ℕ) (segments : List Segment) → length (lines_with true counts segments) ≡ 0 → counts ≡ []
 unfolding lines_with
 no-lines [] segments is = refl
 no-lines (count ∷ counts) segments is = absurd (omega (arith, is))
 
-lines-none : (counts : List ℕ) (segments : List Segment) → counts ≡ [] → lines_with counts segments ≡ []
+lines-none : (counts : List ℕ) (segments : List Segment) → counts ≡ [] → lines_with true counts segments ≡ []
 unfolding lines_with
 lines-none [] segments is = refl
 lines-none (count ∷ counts) segments is = absurd (omega (arith, ap length is))

@@ -11,7 +11,7 @@ use Rattle.std.proofs.lemmas.List.Sums.{prefix_len-le-length, suffix_len-le-leng
 use Rattle.icu_segmenter.specs.NearBoundaries.{line_feed}
 use Rattle.icu_segmenter.specs.Wrapping.{bytes_columns}
 use Rattle.segment_text.specs.Joined.{behind_space, is_apart, is_white_space, joined, joined_after, joined_space, line_behind, space_of}
-use Rattle.segment_output.specs.Parts.{AreLines, AreParagraphs, AreWhole, is_blank}
+use Rattle.segment_text.specs.Blocks.{AreLines, AreParagraphs, AreWhole, is_blank}
 use Rattle.segment_text.specs.Preparation.{prepared}
 use Rattle.segment_text.specs.Size.{line_feeds}
 use Rattle.segment_text.specs.Tabs.{expanded, expanded_after, tab_spaces}

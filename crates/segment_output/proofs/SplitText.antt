@@ -15,13 +15,14 @@ use Rattle.icu_segmenter.specs.Rules.{PartsBehind}
 use Rattle.icu_segmenter.specs.TextSegments.{marked}
 use Rattle.icu_segmenter.specs.Decoding.{utf8}
 use Rattle.icu_segmenter.specs.LineBreaks.{line_boundaries_of}
-use Rattle.icu_segmenter.specs.WrappedLines.{wrapped_text}
-use Rattle.segment_output.specs.Fault.{IsReadFault}
+use Rattle.icu_segmenter.specs.WrappedLines.{wrapped_within}
+use Rattle.segment_text.specs.Fault.{IsReadFault}
 use Rattle.segment_output.specs.Output.{Look, Segment, is_shown, lines_at, lines_of, segment_between, segments}
-use Rattle.segment_output.specs.Parts.{AreLines, AreParagraphs, AreWhole, IsAdded, IsBegun, IsPartWritten, MayBeSplit, boundaries_for, count_for, found_for, is_blank, look_by, output_for, printed_behind, text_for}
+use Rattle.segment_text.specs.Blocks.{AreLines, AreWhole}
+use Rattle.segment_output.specs.Parts.{IsAdded, IsBegun, IsPartWritten, MayBeSplit, boundaries_for, count_for, found_for, look_by, output_for, printed_behind, text_for}
 use Rattle.segment_output.specs.Segmenter.{boundaries_by, has_words_alone, mark_by, segments_by}
 use Rattle.segment_text.specs.Size.{both_sizes, size_of}
-use Rattle.segment_output.specs.declared.fault.Fault.{Fault}
+use Rattle.segment_text.specs.declared.fault.Fault.{Fault}
 use Rattle.segment_text.specs.declared.size.Size.{Size}
 use Rattle.segment_text.specs.declared.size.Tally.{Tally}
 use Rattle.segment_output.specs.declared.marks.Mark.{Mark}
@@ -115,8 +116,8 @@ wrapped-more wrapper done part parts ends (before, is) cover =
     subst (λ (done : List ℕ). IsCover 0 (length done) (line_boundaries_of wrapping.lines (utf8 done))
     → wrapped_output wrapping (done ++ part) ≡ wrapped_output wrapping done ++ wrapped_output wrapping part) (sym is)
     (λ cover.
-    ap (shown_lines wrapping) (wrapped-parts wrapping.measure wrapping.columns wrapping.lines parts before part cover (ends before cover))
-    ∙ flat_map-append (shown_line wrapping) (wrapped_text wrapping.measure wrapping.lines wrapping.columns (before ++ line_feed)) (wrapped_text wrapping.measure wrapping.lines wrapping.columns part))
+    ap (shown_lines wrapping) (wrapped-parts wrapping.measure wrapping.room wrapping.lines parts before part cover (ends before cover))
+    ∙ flat_map-append (shown_line wrapping) (wrapped_within utf8 wrapping.measure wrapping.lines wrapping.room (before ++ line_feed)) (wrapped_within utf8 wrapping.measure wrapping.lines wrapping.room part))
     cover
 
 printed-begins : (printing : Printing) (done part : List ℕ) → MayBeSplit printing → AreLines done → IsKnown printing done
@@ -327,31 +328,6 @@ where-read (Ok tally) leads is = tt
 where-read (Err fault) leads is = λ of_reader. leads (is of_reader)
 
 -- ---- a block that has whole lines or paragraphs
-
-pub last-line : (block : List ℕ) (last : ℕ) → last < length block → (slice_index block last == 0x0A) ≡ true → AreLines (take (last + 1) block)
-last-line block last within is = (take last block, take_more block last 0 within ∙ ap (λ (byte : ℕ). take last block ++ byte ∷ []) (eqb-true _ _ is))
-
--- a byte of a beginning
-pub first-bytes : (block : List ℕ) (end last : ℕ) → last < end → slice_index (take end block) last ≡ slice_index block last
-first-bytes block end last within = get_or-take end block last 0 within
-
-pub within-take : (block : List ℕ) (end last : ℕ) → last < length (take end block) → last < end
-within-take block end last within = omega (arith, within, length-take end block)
-
--- a blank line behind a line feed ends paragraphs
-pub blank-end : (block : List ℕ) (last end : ℕ) → last < end → end < length block → (slice_index block last == 0x0A) ≡ true → (slice_index block end == 0x0A) ≡ true
-    → list_all is_blank (take (end - (last + 1)) (drop (last + 1) block)) ≡ true → AreParagraphs (take (end + 1) block)
-blank-end block last end order within before here blank =
-    let blanks : List ℕ = take (end - (last + 1)) (drop (last + 1) block) in
-    let whole : end ≡ (last + 1) + (end - (last + 1)) = omega (arith, order) in
-    let front : take (last + 1) block ≡ take last block ++ line_feed = take_more block last 0 (omega (arith, order, within)) ∙ ap (λ (byte : ℕ). take last block ++ byte ∷ []) (eqb-true _ _ before) in (
-      take last block,
-      blanks,
-      take_more block end 0 within ∙ ap (λ (byte : ℕ). take end block ++ byte ∷ []) (eqb-true _ _ here)
-          ∙ ap (λ (bytes : List ℕ). bytes ++ line_feed) (ap (λ (n : ℕ). take n block) whole ∙ take-add (last + 1) (end - (last + 1)) block ∙ ap (λ (bytes : List ℕ). bytes ++ blanks) front)
-          ∙ append_assoc (take last block ++ line_feed) blanks line_feed,
-      blank,
-    )
 
 pub where-ok : {X P Q : Type 0} (r : Result X Fault) → (P → Q) → OnOk r P → OnOk r Q
 where-ok (Ok x) leads is = leads is

@@ -17,8 +17,9 @@ use Rattle.seg_clusters.proofs.SplitItems.{items-split, later-codes, later-place
 use Rattle.seg_clusters.specs.Rules.{PartsBehind}
 use Rattle.seg_lines.specs.LineBreaks.{LineRules, line_boundaries_of}
 use Rattle.seg_lines.specs.Between.{between}
-use Rattle.seg_wrap.specs.Wrapping.{Line, Measure, Segment, TextLine, as_one, characters_before, ends_before, line_of, lines_from, rest_from, segment_of, segments_from, text_lines, wrapped_lines}
-use Rattle.seg_wrap.specs.WrappedLines.{wrapped_text}
+use Rattle.seg_wrap.specs.declared.wrap.wrapping.Room.{Room}
+use Rattle.seg_wrap.specs.Wrapping.{Line, Measure, Segment, TextLine, as_one, characters_before, columns_in, ends_before, line_of, lines_from, rest_from, segment_of, segments_from, text_lines, wrapped_lines}
+use Rattle.seg_wrap.specs.WrappedLines.{wrapped_within}
 use Rattle.seg_wrap.proofs.Places.{none-left, place-within}
 use Rattle.seg_wrap.proofs.SegmentsJoined.{length-of-lines, lines_length, segments_length}
 use Rattle.seg_wrap.proofs.Texts.{utf8-text}
@@ -149,43 +150,51 @@ module _ (measure : Measure) where
 
 -- ---- lines end where they must
 
-module _ (limit : ℕ) where
-  lines-behind : (line : Segment) (more : List Segment) → line.is_mandatory ≡ true → lines_from limit line more ≡ line_of line ∷ wrapped_lines limit more
+module _ (room : Room) where
+  lines-behind : (is_first : Bool) (line : Segment) (more : List Segment) → line.is_mandatory ≡ true
+      → lines_from room is_first line more ≡ line_of is_first line ∷ wrapped_lines room more
   unfolding lines_from
-  lines-behind line [] is = refl
-  lines-behind line (next ∷ more) is = rw is refl
+  lines-behind is_first line [] is = refl
+  lines-behind is_first line (next ∷ more) is = rw is refl
 
-  lines-split : (line : Segment) (some : List Segment) (last : Segment) (more : List Segment) → last.is_mandatory ≡ true
-      → lines_from limit line ((some ++ last ∷ []) ++ more) ≡ lines_from limit line (some ++ last ∷ []) ++ wrapped_lines limit more
+  lines-split : (is_first : Bool) (line : Segment) (some : List Segment) (last : Segment) (more : List Segment) → last.is_mandatory ≡ true
+      → lines_from room is_first line ((some ++ last ∷ []) ++ more) ≡ lines_from room is_first line (some ++ last ∷ []) ++ wrapped_lines room more
   unfolding lines_from
-  lines-split line [] last more is = on (ends_before limit line last) (lines-behind last more is) (lines-behind (as_one line last) more is)
+  lines-split is_first line [] last more is =
+      on (ends_before (columns_in room is_first) line last) (lines-behind line.is_mandatory last more is) (lines-behind is_first (as_one line last) more is)
     where
-      on : (b : Bool) → lines_from limit last more ≡ line_of last ∷ wrapped_lines limit more
-          → lines_from limit (as_one line last) more ≡ line_of (as_one line last) ∷ wrapped_lines limit more
-          → (if b then line_of line ∷ lines_from limit last more else lines_from limit (as_one line last) more)
-          ≡ (if b then line_of line ∷ line_of last ∷ [] else line_of (as_one line last) ∷ []) ++ wrapped_lines limit more
-      on true anew further = ap (λ (lines : List Line). line_of line ∷ lines) anew
+      on : (b : Bool) → lines_from room line.is_mandatory last more ≡ line_of line.is_mandatory last ∷ wrapped_lines room more
+          → lines_from room is_first (as_one line last) more ≡ line_of is_first (as_one line last) ∷ wrapped_lines room more
+          → (if b then line_of is_first line ∷ lines_from room line.is_mandatory last more else lines_from room is_first (as_one line last) more)
+          ≡ (if b then line_of is_first line ∷ line_of line.is_mandatory last ∷ [] else line_of is_first (as_one line last) ∷ []) ++ wrapped_lines room more
+      on true anew further = ap (λ (lines : List Line). line_of is_first line ∷ lines) anew
       on false anew further = further
-  lines-split line (next ∷ some) last more is =
-      on (ends_before limit line next) (lines-split next some last more is) (lines-split (as_one line next) some last more is)
+  lines-split is_first line (next ∷ some) last more is =
+      on (ends_before (columns_in room is_first) line next) (lines-split line.is_mandatory next some last more is) (lines-split is_first (as_one line next) some last more is)
     where
-      on : (b : Bool) → lines_from limit next ((some ++ last ∷ []) ++ more) ≡ lines_from limit next (some ++ last ∷ []) ++ wrapped_lines limit more
-          → lines_from limit (as_one line next) ((some ++ last ∷ []) ++ more) ≡ lines_from limit (as_one line next) (some ++ last ∷ []) ++ wrapped_lines limit more
-          → (if b then line_of line ∷ lines_from limit next ((some ++ last ∷ []) ++ more) else lines_from limit (as_one line next) ((some ++ last ∷ []) ++ more))
-          ≡ (if b then line_of line ∷ lines_from limit next (some ++ last ∷ []) else lines_from limit (as_one line next) (some ++ last ∷ [])) ++ wrapped_lines limit more
-      on true anew further = ap (λ (lines : List Line). line_of line ∷ lines) anew
+      rest : List Segment
+      rest = (some ++ last ∷ []) ++ more
+
+      first : List Segment
+      first = some ++ last ∷ []
+
+      on : (b : Bool) → lines_from room line.is_mandatory next rest ≡ lines_from room line.is_mandatory next first ++ wrapped_lines room more
+          → lines_from room is_first (as_one line next) rest ≡ lines_from room is_first (as_one line next) first ++ wrapped_lines room more
+          → (if b then line_of is_first line ∷ lines_from room line.is_mandatory next rest else lines_from room is_first (as_one line next) rest)
+          ≡ (if b then line_of is_first line ∷ lines_from room line.is_mandatory next first else lines_from room is_first (as_one line next) first) ++ wrapped_lines room more
+      on true anew further = ap (λ (lines : List Line). line_of is_first line ∷ lines) anew
       on false anew further = further
 
   wrapped-split : (some : List Segment) (last : Segment) (more : List Segment) → last.is_mandatory ≡ true
-      → wrapped_lines limit ((some ++ last ∷ []) ++ more) ≡ wrapped_lines limit (some ++ last ∷ []) ++ wrapped_lines limit more
+      → wrapped_lines room ((some ++ last ∷ []) ++ more) ≡ wrapped_lines room (some ++ last ∷ []) ++ wrapped_lines room more
   unfolding lines_from
-  wrapped-split [] last more is = lines-behind last more is
-  wrapped-split (first ∷ some) last more is = lines-split first some last more is
+  wrapped-split [] last more is = lines-behind true last more is
+  wrapped-split (first ∷ some) last more is = lines-split true first some last more is
 
-  wrapped-length : (segments : List Segment) → lines_length (wrapped_lines limit segments) ≡ segments_length segments
+  wrapped-length : (segments : List Segment) → lines_length (wrapped_lines room segments) ≡ segments_length segments
   unfolding lines_length segments_length
   wrapped-length [] = refl
-  wrapped-length (first ∷ segments) = length-of-lines limit first segments
+  wrapped-length (first ∷ segments) = length-of-lines room true first segments
 
 -- ---- the units that they stand in
 
@@ -225,7 +234,7 @@ module _ (units more : List ℕ) where
       ap₂ (λ (from to : ℕ). between from to (units ++ more)) from to
       ∙ between-front units more (place_of items mid) (place_of (drop n items) mid) (omega (arith, place-within items mid rises, long)) (omega (arith, place-within (drop n items) mid rises_on, long)) in
       let left : lines_length lines ≡ length (drop n items) = omega (arith, same, length-drop n items) in
-      ap₂ (λ (units' : List ℕ) (lines' : List TextLine). let first : TextLine = record { units = units'; columns = line.columns; is_mandatory = line.is_mandatory } in first ∷ lines') stands
+      ap₂ (λ (units' : List ℕ) (lines' : List TextLine). let first : TextLine = record { units = units'; columns = line.columns; is_first = line.is_first; is_mandatory = line.is_mandatory } in first ∷ lines') stands
       (ap (λ (items : List Item). text_lines (units ++ more) (with_items end items) (lines ++ later)) rest
       ∙ text_lines-front (drop n items) others mid end lines later rises_on seam long left)
 
@@ -242,7 +251,7 @@ module _ (units more : List ℕ) where
       ≡ between (place_of items end) (place_of (drop n items) end) more =
       ap₂ (λ (from to : ℕ). between from to (units ++ more)) (later-place (length units) end items) to
       ∙ between-back units more (place_of items end) (place_of (drop n items) end) in
-      ap₂ (λ (units' : List ℕ) (lines' : List TextLine). let first : TextLine = record { units = units'; columns = line.columns; is_mandatory = line.is_mandatory } in first ∷ lines') stands
+      ap₂ (λ (units' : List ℕ) (lines' : List TextLine). let first : TextLine = record { units = units'; columns = line.columns; is_first = line.is_first; is_mandatory = line.is_mandatory } in first ∷ lines') stands
       (ap (λ (items : List Item). text_lines (units ++ more) (with_items (length units + end) items) lines) rest ∙ text_lines-later (drop n items) end lines)
 
 -- ---- the last boundary
@@ -258,9 +267,9 @@ last-form from end (found ∷ next ∷ boundaries) rises below =
 
 -- ---- all together
 
-module _ (measure : Measure) (limit : ℕ) where
+module _ (measure : Measure) (room : Room) where
   abbrev lines_in : List ℕ → Text → List Boundary → List TextLine
-  lines_in units text boundaries = text_lines units text (wrapped_lines limit (segments_from measure text boundaries))
+  lines_in units text boundaries = text_lines units text (wrapped_lines room (segments_from measure text boundaries))
 
   text-parts : (units more : List ℕ) (items others : List Item) (boundaries later : List Boundary) → IsRising items (length units) → place_of others (length more) ≡ 0
       → RisesTo 0 boundaries (length units) → 0 < length units → last_status boundaries ≡ 1
@@ -280,15 +289,15 @@ module _ (measure : Measure) (limit : ℕ) where
       let must : boundaries ≡ ended.0 ++ boundary n 1 ∷ [] = ended.1 ∙ ap (λ (status : ℕ). ended.0 ++ boundary n status ∷ []) is in
       let last : EndsLine measure first =
       subst (λ (boundaries : List Boundary). EndsLine measure (segments_from measure (with_items n items) boundaries)) (sym must) (segments-last measure (with_items n items) ended.0 n) in
-      let lines : wrapped_lines limit (first ++ second) ≡ wrapped_lines limit first ++ wrapped_lines limit second =
-      ap (λ (segments : List Segment). wrapped_lines limit (segments ++ second)) last.2
-      ∙ wrapped-split limit last.0 last.1 second last.3
-      ∙ ap (λ (segments : List Segment). wrapped_lines limit segments ++ wrapped_lines limit second) (sym last.2) in
-      ap (λ (segments : List Segment). text_lines (units ++ more) (with_items end (items ++ behind)) (wrapped_lines limit segments)) segments
+      let lines : wrapped_lines room (first ++ second) ≡ wrapped_lines room first ++ wrapped_lines room second =
+      ap (λ (segments : List Segment). wrapped_lines room (segments ++ second)) last.2
+      ∙ wrapped-split room last.0 last.1 second last.3
+      ∙ ap (λ (segments : List Segment). wrapped_lines room segments ++ wrapped_lines room second) (sym last.2) in
+      ap (λ (segments : List Segment). text_lines (units ++ more) (with_items end (items ++ behind)) (wrapped_lines room segments)) segments
       ∙ ap (λ (lines : List Line). text_lines (units ++ more) (with_items end (items ++ behind)) lines) lines
-      ∙ text_lines-front units more items behind n end (wrapped_lines limit first) (wrapped_lines limit second) rises seam refl
-      (wrapped-length limit first ∙ segments-whole measure items n 0 boundaries rises (omega arith) climbs)
-      ∙ ap (λ (lines : List TextLine). lines_in units (with_items n items) boundaries ++ lines) (text_lines-later units more others (length more) (wrapped_lines limit second))
+      ∙ text_lines-front units more items behind n end (wrapped_lines room first) (wrapped_lines room second) rises seam refl
+      (wrapped-length room first ∙ segments-whole measure items n 0 boundaries rises (omega arith) climbs)
+      ∙ ap (λ (lines : List TextLine). lines_in units (with_items n items) boundaries ++ lines) (text_lines-later units more others (length more) (wrapped_lines room second))
 
   module _ (rules : LineRules) (parts : PartsBehind (λ bytes. line_boundaries_of rules (utf8 bytes)) line_feed) (before more : List ℕ) where
     abbrev done : List ℕ
@@ -315,7 +324,7 @@ module _ (measure : Measure) (limit : ℕ) where
     starts-at bytes = ap start_of (sym (from-start bytes)) ∙ (utf8-text bytes).start
 
     pub wrapped-parts : IsCover 0 (length done) (line_boundaries_of rules (utf8 done)) → last_status (line_boundaries_of rules (utf8 done)) ≡ 1
-        → wrapped_text measure rules limit (done ++ more) ≡ wrapped_text measure rules limit done ++ wrapped_text measure rules limit more
+        → wrapped_within utf8 measure rules room (done ++ more) ≡ wrapped_within utf8 measure rules room done ++ wrapped_within utf8 measure rules room more
     unfolding last_status
     wrapped-parts cover must = on (line_boundaries_of rules (utf8 done)) refl cover must
       where
@@ -323,7 +332,7 @@ module _ (measure : Measure) (limit : ℕ) where
         some = omega (arith, length-append before line_feed)
 
         on : (found : List Boundary) → line_boundaries_of rules (utf8 done) ≡ found → IsCover 0 (length done) found → last_status found ≡ 1
-            → wrapped_text measure rules limit (done ++ more) ≡ wrapped_text measure rules limit done ++ wrapped_text measure rules limit more
+            → wrapped_within utf8 measure rules room (done ++ more) ≡ wrapped_within utf8 measure rules room done ++ wrapped_within utf8 measure rules room more
         on [] same covers is = absurd covers
         on (first ∷ []) same (at, climbs) is = absurd (omega (arith, climbs, some))
         on (first ∷ next ∷ found) same (at, climbs) is =

@@ -13,7 +13,7 @@ use Rattle.segment_output.specs.Wrapped.{Wrapping, shown_line}
 
 -- a line of some bytes
 abbrev pub line_at : List ℕ → Span → TextLine
-line_at bytes span = record { units = between span.start span.end bytes; columns = span.columns; is_mandatory = span.is_mandatory }
+line_at bytes span = record { units = between span.start span.end bytes; columns = span.columns; is_first = span.is_first; is_mandatory = span.is_mandatory }
 
 -- these lines as they are shown
 abbrev pub shown_spans : Wrapping → List ℕ → List Span → List ℕ
@@ -32,10 +32,10 @@ pub record IsWrittenFrom (wrapping : Wrapping) (bytes : List ℕ) (left : Paragr
   pub none_left : after.segments ≡ []
   pub shown : written ≡ flat_map (shown_spans wrapping bytes) paragraphs
 
--- what is written of some bytes: their balanced lines, each as it is shown
+-- what is written of some bytes: their balanced lines, of the columns that a paragraph's later lines have, each as it is shown
 abbrev pub IsBalancedOutput : Wrapping → List ℕ → List ℕ → Type 0
 IsBalancedOutput wrapping bytes written =
-    IsWrittenFrom wrapping bytes (paragraphs_of utf8 wrapping.measure wrapping.lines (min wrapping.columns 4294967295) bytes) written
+    IsWrittenFrom wrapping bytes (paragraphs_of utf8 wrapping.measure wrapping.lines (min wrapping.room.others 4294967295) bytes) written
 
 -- something is written, of which this holds
 abbrev pub AppendsSome : Option (List ℕ) → Option (List ℕ) → (List ℕ → Type 0) → Type 0

@@ -1,5 +1,4 @@
 pub mod Balanced
-pub mod Fault
 pub mod Gathered
 pub mod Objects
 pub mod Output

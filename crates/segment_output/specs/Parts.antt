@@ -1,8 +1,7 @@
 -- Texts that come part by part, and what is written of them.
-use Rattle.std.specs.Prelude.{◌≡◌, ◌⊎◌, ℕ, ◌+◌, ◌==◌, ◌||◌, Bool, true, false, Option, List, ◌++◌, length}
+use Rattle.std.specs.Prelude.{◌≡◌, ◌⊎◌, ℕ, ◌+◌, Option, List, ◌++◌, length}
 use Rattle.std.specs.Io.KnownBytes.{Appends, Consumes}
 use Rattle.std.specs.Borrow.{Bor}
-use Rattle.std.specs.List.{list_all}
 use Rattle.std.specs.Option.{option_map}
 use Rattle.icu_segmenter.specs.Boundary.{Boundary}
 use Rattle.icu_segmenter.specs.Boundaries.{IsCover}
@@ -11,6 +10,7 @@ use Rattle.icu_segmenter.specs.LineBreaks.{line_boundaries_of}
 use Rattle.icu_segmenter.specs.NearBoundaries.{line_feed}
 use Rattle.icu_segmenter.specs.Rules.{PartsBehind}
 use Rattle.segment_output.specs.Output.{Look, lines_at}
+use Rattle.segment_text.specs.Blocks.{AreWhole}
 use Rattle.segment_text.specs.Preparation.{prepared}
 use Rattle.segment_output.specs.Segmenter.{boundaries_by, segments_by}
 use Rattle.segment_text.specs.Size.{both_sizes, size_of}
@@ -21,25 +21,6 @@ use Rattle.segment_output.specs.declared.parts.Printing.{Printing}
 use Rattle.segment_output.specs.declared.parts.Printing.TheVariants.{Segments, Lines}
 use Rattle.segment_output.specs.declared.parts.Progress.{Progress}
 use Rattle.segment_output.specs.declared.parts.Splitting.{Splitting}
-
--- ---- where a text is split
-
--- whole lines: some bytes, of which the last is a line feed
-abbrev pub AreLines : List ℕ → Type 0
-AreLines bytes = (before : List ℕ) × (bytes ≡ before ++ line_feed)
-
--- what a blank line has before its line feed: spaces, tabs and carriage returns
-abbrev pub is_blank : ℕ → Bool
-is_blank byte = byte == 0x20 || byte == 0x09 || byte == 0x0D
-
--- whole paragraphs: lines, of which the last is blank
-abbrev pub AreParagraphs : List ℕ → Type 0
-AreParagraphs bytes = (before blanks : List ℕ) × (bytes ≡ (before ++ line_feed) ++ (blanks ++ line_feed)) × (list_all is_blank blanks ≡ true)
-
--- a text is split behind whole lines, and behind whole paragraphs where their lines are joined
-abbrev pub AreWhole : Bool → List ℕ → Type 0
-AreWhole true bytes = AreParagraphs bytes
-AreWhole false bytes = AreLines bytes
 
 -- ---- what is written of a text
 

@@ -1,5 +1,5 @@
 -- What is written of a text whose lines are wrapped.
-use Rattle.std.specs.Prelude.{◌≡◌, ℕ, nat_lt, Option, None, Some, List, [], ◌∷◌, ◌++◌, length, if◌then◌else◌}
+use Rattle.std.specs.Prelude.{◌≡◌, ℕ, ◌&&◌, nat_lt, Bool, Option, None, Some, List, [], ◌∷◌, ◌++◌, length, if◌then◌else◌}
 use Rattle.std.specs.List.{flat_map}
 use Rattle.icu_segmenter.specs.Boundary.{Boundary}
 use Rattle.icu_segmenter.specs.Boundaries.{IsCover}
@@ -10,18 +10,33 @@ use Rattle.icu_segmenter.specs.NearBoundaries.{line_feed}
 use Rattle.icu_segmenter.specs.Rules.{Rules}
 use Rattle.icu_segmenter.specs.Rules.Rules.{ByMachine}
 use Rattle.icu_segmenter.specs.ScriptWords.{no_words}
-use Rattle.icu_segmenter.specs.Wrapping.{Measure, TextLine, by_characters, by_clusters}
-use Rattle.icu_segmenter.specs.WrappedLines.{wrapped_text}
+use Rattle.icu_segmenter.specs.Wrapping.{Measure, TextLine, by_characters, by_clusters, columns_in}
+use Rattle.icu_segmenter.specs.WrappedLines.{wrapped_within}
+use Rattle.seg_wrap.specs.declared.wrap.wrapping.Room.{Room}
 use Rattle.segment_text.specs.Trimmed.{printed_line, without_trailing_space}
 use Rattle.icu_segmenter_uax29.specs.Clusters.{cluster_machine}
 
--- the lines of a text, each without its trailing white space, and a line feed
-abbrev pub printed_lines : List TextLine → List ℕ
-printed_lines lines = flat_map (λ line. printed_line line.units) lines
+-- what stands before lines: before the first of each paragraph, and before the others
+pub record Indents : Type 0 where
+  pub first : List ℕ
+  pub others : List ℕ
 
--- how lines are wrapped: to so many columns, at the breaks of some rules, by which rules those that are wider are broken, if they are, and how columns are counted
+abbrev pub indent_in : Indents → Bool → List ℕ
+indent_in indents is_first = if is_first then indents.first else indents.others
+
+-- a line of these bytes behind its indent, and a blank one behind that of other lines
+abbrev pub indented_line : Indents → Bool → List ℕ → List ℕ
+indented_line indents is_first bytes = printed_line (indent_in indents is_first) indents.others bytes
+
+-- lines of a part of a text, which begins a paragraph or not
+abbrev pub printed_lines : Indents → Bool → List TextLine → List ℕ
+printed_lines indents is_first lines = flat_map (λ line. indented_line indents (line.is_first && is_first) line.units) lines
+
+-- how lines are wrapped: behind which indents, to how many columns, at the breaks of some rules, by which rules those that are wider are broken, if they
+-- are, and how columns are counted
 pub record Wrapping : Type 0 where
-  pub columns : ℕ
+  pub indents : Indents
+  pub room : Room
   pub lines : LineRules
   pub broken : Option LineRules
   pub measure : Measure
@@ -35,21 +50,28 @@ measure_by (Some rules) = by_clusters rules
 abbrev pub cluster_lines : LineRules
 cluster_lines = record { finder = ByClusters; payloads = record { words = no_words; clusters = ByMachine cluster_machine } }
 
--- the lines that a wrapped line is shown as: where it is wider than the columns, without its trailing white space, wrapped once more, if such lines are broken
-abbrev pub shown_as : Measure → Option LineRules → ℕ → TextLine → List TextLine
-shown_as measure None columns line = line ∷ []
-shown_as measure (Some rules) columns line =
-    if nat_lt columns line.columns then wrapped_text measure rules columns (without_trailing_space line.units) else line ∷ []
+-- the columns of the parts of a line
+abbrev pub room_from : Room → Bool → Room
+room_from room is_first = record { first = columns_in room is_first; others = room.others }
+
+-- a wrapped line as it is shown: where it is wider than its columns, without its trailing white space, wrapped once more by these rules, if there are some
+abbrev pub shown_by : Option LineRules → Wrapping → TextLine → List ℕ
+shown_by None wrapping line = indented_line wrapping.indents line.is_first line.units
+shown_by (Some rules) wrapping line =
+    if nat_lt (columns_in wrapping.room line.is_first) line.columns then
+    printed_lines wrapping.indents line.is_first
+    (wrapped_within utf8 wrapping.measure rules (room_from wrapping.room line.is_first) (without_trailing_space line.units))
+    else indented_line wrapping.indents line.is_first line.units
 
 abbrev pub shown_line : Wrapping → TextLine → List ℕ
-shown_line wrapping line = printed_lines (shown_as wrapping.measure wrapping.broken wrapping.columns line)
+shown_line wrapping line = shown_by wrapping.broken wrapping line
 
 abbrev pub shown_lines : Wrapping → List TextLine → List ℕ
 shown_lines wrapping lines = flat_map (shown_line wrapping) lines
 
 -- what is written of some bytes: their wrapped lines, each as it is shown
 abbrev pub wrapped_output : Wrapping → List ℕ → List ℕ
-wrapped_output wrapping bytes = shown_lines wrapping (wrapped_text wrapping.measure wrapping.lines wrapping.columns bytes)
+wrapped_output wrapping bytes = shown_lines wrapping (wrapped_within utf8 wrapping.measure wrapping.lines wrapping.room bytes)
 
 -- the status of the last of some boundaries
 unfoldable pub last_status : List Boundary → ℕ

@@ -8,6 +8,7 @@ use Rattle.icu_segmenter.specs.Rules.Rules.{ByMachine}
 use Rattle.icu_segmenter.specs.ScriptWords.{ScriptWords}
 use Rattle.icu_segmenter.specs.declared.options.LineBreakOptions.{LineBreakOptions}
 use Rattle.icu_segmenter_uax29.specs.Clusters.{cluster_machine}
+use Rattle.icu_segmenter.specs.Wrapping.{room_beside}
 use Rattle.segment_output.specs.Segmenter.{line_rules_by}
 use Rattle.segment_output.specs.Wrapped.{Wrapping, cluster_lines, measure_by}
 use Rattle.segment_output.specs.declared.segmenter.Engine.TheVariants as engine
@@ -17,7 +18,8 @@ use Rattle.segment_output.specs.declared.wrapper.Wrapper.{Wrapper}
 -- how a wrapper wraps
 abbrev pub wrapping_of : Wrapper → Wrapping
 wrapping_of wrapper = record {
-  columns = wrapper.columns;
+  indents = record { first = wrapper.first_indent.items; others = wrapper.indent.items };
+  room = wrapper.room;
   lines = owned_line_rules wrapper.lines.lines;
   broken = option_map (λ clusters. owned_line_rules clusters.lines) wrapper.clusters;
   measure = measure_by (option_map owned_cluster_rules wrapper.counted);
@@ -32,7 +34,8 @@ counted_clusters by_cluster = if by_cluster then Some (ByMachine cluster_machine
 abbrev pub IsAskedWrapper : Width → LineBreakOptions → ScriptWords → Wrapper → Type 0
 IsAskedWrapper width options words wrapper =
     wrapping_of wrapper ≡ record {
-      columns = width.columns;
+      indents = record { first = width.first_indent.now; others = width.indent.now };
+      room = room_beside width.columns width.first_indent.now width.indent.now;
       lines = line_rules_by engine.Neo options words;
       broken = if width.breaks_words then Some cluster_lines else None;
       measure = measure_by (counted_clusters width.by_cluster);

@@ -2,7 +2,6 @@
 //! and its wrapped lines.
 #![tactic(auto)]
 
-pub mod fault;
 mod machine_lines;
 pub mod marks;
 mod object_lines;

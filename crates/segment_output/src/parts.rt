@@ -4,15 +4,15 @@ ghost use Rattle.std.specs.List.{list_all};
 ghost use Rattle.std.specs.Io.{ReadsAtMost};
 ghost use Rattle.std.specs.Io.KnownBytes.{Appends, Consumes, IsAtEnd, Keeps, ReadConsumes};
 ghost use Rattle.icu_segmenter.specs.Boundaries.{IsCover};
-ghost use Rattle.segment_output.specs.Fault.{IsReadFault};
-ghost use Rattle.segment_output.specs.Parts.{AreLines, AreParagraphs, AreWhole, IsAdded, IsBegun, IsPartWritten, MayBeSplit, boundaries_for, count_for, found_for, is_blank, output_for, printed_behind};
+ghost use Rattle.segment_text.specs.Fault.{IsReadFault};
+ghost use Rattle.segment_output.specs.Parts.{IsAdded, IsBegun, IsPartWritten, MayBeSplit, boundaries_for, count_for, found_for, output_for, printed_behind};
 ghost use Rattle.segment_text.specs.Size.{both_sizes, size_of};
 
-use crate::fault::Fault;
 use crate::output::{Part, Style};
 use crate::segmenter::Segmenter;
 use crate::wrapper::Wrapper;
-use memchr::memrchr;
+use segment_text::blocks::{read_block, whole_len};
+use segment_text::fault::Fault;
 use segment_text::preparation::Preparation;
 use segment_text::size::{Size, Tally};
 use std::alloc::Global;
@@ -142,37 +142,6 @@ pub fn print_parts<I: Read, O: Write>(
     Err(Fault::Read(io::Error::from(ErrorKind::Other)))
 }
 
-// One read into a block: how many bytes it gave, and none at the end.
-fn read_block<I: Read>(input: &mut I, block: &mut [u8]) -> Result<usize, Fault>
-    requires { 0 < length block.old }
-    ensures read { IfOk result (λ len. (len ≤ length block.new) × Consumes (I.remaining input.old) (I.remaining input.new) (take len block.new)
-        × (len ≡ 0 → IsAtEnd (I.remaining input.new))) }
-    ensures kept { OnErr result (Keeps (I.remaining input.old) (I.remaining input.new)) }
-{
-    match read_again(input, block) {
-        Ok(len) => Ok(len),
-        Err(error) => Err(Fault::of_reading(error)),
-    }
-}
-
-// A read, again where a signal interrupts it.
-fn read_again<I: Read>(input: &mut I, block: &mut [u8]) -> io::Result<usize>
-    ensures bound { ReadsAtMost result block.new }
-    ensures bytes { ReadConsumes (I.remaining input.old) (I.remaining input.new) result block.new }
-{
-    'tries: for _ in 0..u64::MAX {
-        match input.read(block) {
-            Ok(len) => return Ok(len),
-            Err(error) => {
-                if error.kind() != ErrorKind::Interrupted {
-                    return Err(error);
-                }
-            }
-        }
-    }
-    Err(io::Error::from(ErrorKind::Interrupted))
-}
-
 // Adds a block that has come: all up to the last place where it may be split is written.
 fn add_block<O: Write>(
     splitting: Splitting<'_>,
@@ -192,53 +161,6 @@ fn add_block<O: Write>(
     hold(rest, &mut next)?;
     let part = mem::replace(&mut progress.held, next);
     print_part(splitting, part, progress, out)
-}
-
-// How many bytes of a block come before the last place where a text may be split, if it has one.
-fn whole_len(joins: bool, block: &[u8]) -> Option<usize>
-    ensures { IfSome result (λ len. (len ≤ length block.now) × AreWhole joins (take len block.now)) }
-{
-    if joins {
-        paragraphs_len(block)
-    } else {
-        lines_len(block)
-    }
-}
-
-// How many bytes whole lines have.
-fn lines_len(block: &[u8]) -> Option<usize>
-    ensures { IfSome result (λ len. (len ≤ length block.now) × AreLines (take len block.now)) }
-{
-    match memrchr(b'\n', block) {
-        Some(last) => Some(last + 1),
-        None => None,
-    }
-}
-
-// How many bytes whole paragraphs have: up to the last blank line whose line before has its line feed in the block.
-fn paragraphs_len(block: &[u8]) -> Option<usize>
-    ensures { IfSome result (λ len. (len ≤ length block.now) × AreParagraphs (take len block.now)) }
-{
-    let Some(mut end) = memrchr(b'\n', block) else {
-        return None;
-    };
-    'lines: loop {
-        let Some(last) = memrchr(b'\n', &block[..end]) else {
-            return None;
-        };
-        if is_blank_line(&block[last + 1..end]) {
-            return Some(end + 1);
-        }
-        end = last;
-    }
-}
-
-// Whether a line, without its line feed, is blank.
-fn is_blank_line(line: &[u8]) -> bool
-    ensures { result ≡ list_all is_blank line.now }
-{
-    line.iter()
-        .all(|byte| *byte == b' ' || *byte == b'\t' || *byte == b'\r')
 }
 
 // Adds bytes to those that are held.

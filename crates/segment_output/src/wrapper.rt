@@ -1,5 +1,5 @@
 //! Lines, wrapped to columns.
-ghost use Rattle.std.specs.Prelude.{◌≡◌, ◌++◌, length, Some, IfOk, IsTrue, OnOk};
+ghost use Rattle.std.specs.Prelude.{◌≡◌, ◌++◌, length, IfOk, IsTrue, OnOk};
 ghost use Rattle.std.specs.Option.{option_map};
 ghost use Rattle.std.specs.Io.KnownBytes.{Appends};
 ghost use Rattle.icu_segmenter.specs.Boundaries.{IsCover};
@@ -10,9 +10,9 @@ ghost use Rattle.icu_segmenter.specs.Lines.{owned_line_rules};
 ghost use Rattle.icu_segmenter.specs.NearBoundaries.{line_feed};
 ghost use Rattle.icu_segmenter.specs.Rules.{PartsBehind};
 ghost use Rattle.icu_segmenter.specs.ScriptWords.{script_words};
-ghost use Rattle.icu_segmenter.specs.WrappedLines.{utf8_lines_to_come, wrapper_measure, wrapper_rules};
+ghost use Rattle.icu_segmenter.specs.WrappedLines.{utf8_lines_to_come};
 ghost use Rattle.icu_segmenter.specs.Wrapping.{TextLine};
-ghost use Rattle.segment_output.specs.Wrapped.{EndsLines, cluster_lines, printed_lines, shown_as, shown_line, shown_lines, wrapped_output};
+ghost use Rattle.segment_output.specs.Wrapped.{EndsLines, cluster_lines, indent_in, printed_lines, shown_line, shown_lines, wrapped_output};
 ghost use Rattle.segment_output.specs.Wrapper.{wrapping_of, IsAskedWrapper};
 
 mod balanced;
@@ -21,7 +21,7 @@ use crate::machine_lines::MachineLines;
 use crate::output::{LINES_CAPACITY, LINES_LEN, write_lines};
 use icu_segmenter::options::{LineBreakOptions, LineBreakStrictness};
 use icu_segmenter::provider::{DataError, Dictionaries};
-use icu_segmenter::wrap::{LineWrapper, WrapUtf8Iterator};
+use icu_segmenter::wrap::{Room, WrapUtf8Iterator};
 use icu_segmenter::{GraphemeClusterSegmenter, GraphemeClusterSegmenterBorrowed};
 use icu_segmenter_data::grapheme_segmenter;
 use segment_text::trimmed::{push_line, without_trailing_space};
@@ -30,10 +30,14 @@ use std::io;
 use std::io::Write;
 
 /// How lines are wrapped.
-#[derive(Clone, Copy, PartialEq, Eq)]
-pub struct Width {
-    /// The columns that a line has at most, unless no line may end in it.
+#[derive(Clone, Copy)]
+pub struct Width<'a> {
+    /// The columns that a line has at most, with its indent, unless no line may end in it.
     pub columns: usize,
+    /// What stands before the first line of each paragraph.
+    pub first_indent: &'a str,
+    /// What stands before the other lines.
+    pub indent: &'a str,
     /// Whether what is wider, and no line may end in it, is broken between clusters.
     pub breaks_words: bool,
     /// Whether columns are counted cluster by cluster, and not character by character.
@@ -43,8 +47,12 @@ pub struct Width {
 /// Wraps lines, with data of its own.
 #[derive(Drop)]
 pub struct Wrapper {
-    /// The columns that a line has at most.
-    columns: usize,
+    /// What stands before the first line of each paragraph.
+    first_indent: Vec<u8>,
+    /// What stands before the other lines.
+    indent: Vec<u8>,
+    /// The columns that lines have at most behind these.
+    room: Room,
     /// The clusters by which they are counted; by character where there are none.
     counted: Option<GraphemeClusterSegmenter>,
     /// What finds where a line may end.
@@ -61,7 +69,7 @@ impl Wrapper {
     {
         let counted = self.counted_clusters();
         let wrapper = self.lines.wrapper(counted);
-        self.print_all(alloc, wrapper.wrap_utf8(text, self.columns), out)
+        self.print_all(alloc, wrapper.wrap_utf8_within(text, self.room), out)
     }
 
     // The clusters by which columns are counted, if they are.
@@ -85,7 +93,7 @@ impl Wrapper {
     {
         let mut gathered = Vec::with_capacity(alloc, LINES_CAPACITY)?;
         for line in lines {
-            self.push_shown(line.bytes(), line.columns(), &mut gathered)?;
+            self.push_shown(line.bytes(), line.columns(), line.is_first(), &mut gathered)?;
             if gathered.len() >= LINES_LEN {
                 write_lines(&mut gathered, out)?;
             }
@@ -99,18 +107,56 @@ impl Wrapper {
         &self,
         line: &[u8],
         columns: u128,
+        is_first: bool,
         gathered: &mut Vec<u8>,
     ) -> Result<(), AllocError>
-        ensures { OnOk result ((shown : TextLine) → shown.units ≡ line.now → shown.columns ≡ columns
+        ensures { OnOk result ((shown : TextLine) → shown.units ≡ line.now → shown.columns ≡ columns → shown.is_first ≡ is_first
             → gathered.new.items ≡ gathered.old.items ++ shown_line (wrapping_of self.now) shown) }
     {
         match &self.clusters {
-            Some(clusters) => {
+            Some(clusters) if columns > self.room.columns(is_first) as u128 => {
                 let wrapper = clusters.wrapper(self.counted_clusters());
-                push_broken(line, columns, wrapper, self.columns, gathered)
+                let room = Room {
+                    first: self.room.columns(is_first),
+                    ..self.room
+                };
+                let parts = wrapper.wrap_utf8_within(without_trailing_space(line), room);
+                self.push_parts(parts, is_first, gathered)
             }
-            None => push_line(line, gathered),
+            _ => push_line(
+                self.indent(is_first),
+                self.indent.as_slice(),
+                line,
+                gathered,
+            ),
         }
+    }
+
+    // What stands before a line.
+    fn indent(&self, is_first: bool) -> &[u8]
+        ensures { result.now ≡ indent_in (wrapping_of self.now).indents is_first }
+    {
+        if is_first {
+            self.first_indent.as_slice()
+        } else {
+            self.indent.as_slice()
+        }
+    }
+
+    // Adds the parts of a line.
+    fn push_parts(
+        &self,
+        parts: WrapUtf8Iterator<'_, '_>,
+        is_first: bool,
+        gathered: &mut Vec<u8>,
+    ) -> Result<(), AllocError>
+        ensures { OnOk result (gathered.new.items ≡ gathered.old.items ++ printed_lines (wrapping_of self.now).indents is_first (utf8_lines_to_come parts.entry)) }
+    {
+        for part in parts {
+            let indent = self.indent(part.is_first() & is_first);
+            push_line(indent, self.indent.as_slice(), part.bytes(), gathered)?;
+        }
+        Ok(())
     }
 
     /// Whether a text may be wrapped part by part, each behind a line feed: the lines of the parts are those of the whole text. It is so by
@@ -130,34 +176,14 @@ impl Wrapper {
     }
 }
 
-// Adds a line that takes so many columns, wrapped once more by this where it takes more than there are.
-fn push_broken(
-    line: &[u8],
-    taken: u128,
-    wrapper: LineWrapper<'_>,
-    columns: usize,
-    gathered: &mut Vec<u8>,
-) -> Result<(), AllocError>
-    ensures { OnOk result ((shown : TextLine) → shown.units ≡ line.now → shown.columns ≡ taken
-        → gathered.new.items ≡ gathered.old.items ++ printed_lines (shown_as (wrapper_measure wrapper.entry) (Some (wrapper_rules wrapper.entry)) columns shown)) }
-{
-    if taken <= columns as u128 {
-        return push_line(line, gathered);
-    }
-    push_lines(
-        wrapper.wrap_utf8(without_trailing_space(line), columns),
-        gathered,
-    )
-}
-
 /// A wrapper to a width, with these options of lines and these dictionaries. Fails only when out of memory.
 pub fn wrapper_of(
     alloc: Global,
-    width: Width,
+    width: Width<'_>,
     options: LineBreakOptions<'_>,
     dictionaries: Dictionaries,
 ) -> Result<Wrapper, DataError>
-    ensures { IfOk result (λ wrapper. IsAskedWrapper width options.entry (script_words dictionaries) wrapper) }
+    ensures { IfOk result (λ wrapper. IsAskedWrapper width.entry options.entry (script_words dictionaries) wrapper) }
 {
     let counted = if width.by_cluster {
         Some(grapheme_segmenter(alloc)?)
@@ -170,7 +196,9 @@ pub fn wrapper_of(
         None
     };
     Ok(Wrapper {
-        columns: width.columns,
+        first_indent: copied(alloc, width.first_indent)?,
+        indent: copied(alloc, width.indent)?,
+        room: Room::beside(width.columns, width.first_indent, width.indent),
         counted,
         lines: MachineLines::try_new(alloc, options, dictionaries)?,
         clusters,
@@ -189,12 +217,11 @@ fn cluster_lines(alloc: Global) -> Result<MachineLines, DataError>
     MachineLines::try_new(alloc, options, Dictionaries::none())
 }
 
-// Adds each line that comes, without its trailing white space, and a line feed after it. Fails only when out of memory.
-fn push_lines(lines: WrapUtf8Iterator<'_, '_>, gathered: &mut Vec<u8>) -> Result<(), AllocError>
-    ensures { OnOk result (gathered.new.items ≡ gathered.old.items ++ printed_lines (utf8_lines_to_come lines.entry)) }
+// The bytes of a text once more. Fails only when out of memory.
+fn copied(alloc: Global, text: &str) -> Result<Vec<u8>, AllocError>
+    ensures { IfOk result (λ bytes. bytes.items ≡ text.now) }
 {
-    for line in lines {
-        push_line(line.bytes(), gathered)?;
-    }
-    Ok(())
+    let mut bytes = Vec::new(alloc);
+    bytes.extend_from_slice(text.as_bytes())?;
+    Ok(bytes)
 }

@@ -4,4 +4,5 @@ pub mod Fields
 pub mod KeptDigits
 pub mod LineFeeds
 pub mod PutPieces
+pub mod WholeLines
 pub mod Words

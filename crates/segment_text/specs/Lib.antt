@@ -1,5 +1,7 @@
 pub mod Bare
+pub mod Blocks
 pub mod Escapes
+pub mod Fault
 pub mod Joined
 pub mod Preparation
 pub mod Size

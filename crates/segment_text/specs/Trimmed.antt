@@ -13,6 +13,11 @@ abbrev pub is_signature : List ℕ → Bool
 is_signature bytes =
     pointwise (◌==◌) bytes (0x2D ∷ 0x2D ∷ 0x20 ∷ 0x0A ∷ []) || pointwise (◌==◌) bytes (0x2D ∷ 0x2D ∷ 0x20 ∷ 0x0D ∷ 0x0A ∷ [])
 
--- a line without its trailing white space, and a line feed
-abbrev pub printed_line : List ℕ → List ℕ
-printed_line bytes = (if is_signature bytes then 0x2D ∷ 0x2D ∷ 0x20 ∷ [] else without_trailing_space bytes) ++ 10 ∷ []
+-- what is shown of a line
+abbrev pub shown_part : List ℕ → List ℕ
+shown_part bytes = if is_signature bytes then 0x2D ∷ 0x2D ∷ 0x20 ∷ [] else without_trailing_space bytes
+
+-- a line behind an indent, or where nothing is shown of it another indent, without its trailing white space, and a line feed
+abbrev pub printed_line : List ℕ → List ℕ → List ℕ → List ℕ
+printed_line indent blank bytes =
+    (if length (shown_part bytes) == 0 then without_trailing_space blank else indent ++ shown_part bytes) ++ 10 ∷ []

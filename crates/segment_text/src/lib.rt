@@ -1,10 +1,12 @@
-//! Texts that are not cut: how large they are, tabs as spaces, lines that are joined to paragraphs or trimmed, escapes, what needs none, and
+//! Texts that are not cut: blocks of them as they are read, how large they are, tabs as spaces, lines that are joined to paragraphs or trimmed, escapes, what needs none, and
 //! pieces and numbers that are put into a buffer.
 #![tactic(auto)]
 
 pub mod bare;
+pub mod blocks;
 pub mod digits;
 pub mod escapes;
+pub mod fault;
 pub mod joined;
 pub mod pieces;
 pub mod preparation;

@@ -1,22 +1,41 @@
 //! Lines without their trailing white space.
 ghost use Rattle.std.specs.Prelude.{◌≡◌, ◌++◌, OnOk};
 ghost use Rattle.icu_segmenter.specs.Wrapping.{is_trailing_space};
-ghost use Rattle.segment_text.specs.Trimmed.{is_signature, printed_line, without_trailing_space};
+ghost use Rattle.segment_text.specs.Trimmed.{is_signature, printed_line, shown_part, without_trailing_space};
 
 use std::alloc::AllocError;
 
-/// Adds a line without its trailing white space, but the space of one that parts a signature off (`-- `), and a line feed. Fails only when
-/// out of memory.
-pub fn push_line(line: &[u8], gathered: &mut Vec<u8>) -> Result<(), AllocError>
-    ensures { OnOk result (gathered.new.items ≡ gathered.old.items ++ printed_line line.now) }
+/// Adds an indent, a line behind it without its trailing white space, but the space of one that parts a signature off (`-- `), and a line feed.
+/// Where nothing is shown of the line, what is added of indents is the blank one, without its trailing white space. Fails only when out of
+/// memory.
+pub fn push_line(
+    indent: &[u8],
+    blank: &[u8],
+    line: &[u8],
+    gathered: &mut Vec<u8>,
+) -> Result<(), AllocError>
+    ensures { OnOk result (gathered.new.items ≡ gathered.old.items ++ printed_line indent.now blank.now line.now) }
 {
-    let shown = if is_signature(line) {
+    let shown = shown_part(line);
+    let indent = if shown.is_empty() {
+        without_trailing_space(blank)
+    } else {
+        indent
+    };
+    gathered.extend_from_slice(indent)?;
+    gathered.extend_from_slice(shown)?;
+    gathered.extend_from_slice(b"\n")
+}
+
+// What is shown of a line.
+fn shown_part(line: &[u8]) -> &[u8]
+    ensures { result.now ≡ shown_part line.now }
+{
+    if is_signature(line) {
         b"-- "
     } else {
         without_trailing_space(line)
-    };
-    gathered.extend_from_slice(shown)?;
-    gathered.extend_from_slice(b"\n")
+    }
 }
 
 // Whether this line parts a signature off.

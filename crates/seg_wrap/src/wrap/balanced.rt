@@ -1,6 +1,6 @@
 //! Lines of a text, balanced paragraph by paragraph.
 
-ghost use Rattle.std.specs.Prelude.{◌≡◌, ◌+◌, ◌<◌, ◌^◌, IfErr, IfOk, map};
+ghost use Rattle.std.specs.Prelude.{◌≡◌, ◌+◌, ◌<◌, ◌^◌, true, IfErr, IfOk, map};
 ghost use Rattle.seg_balance.specs.Balanced.{total_columns};
 ghost use Rattle.seg_lines.specs.Lines.{lines_left};
 ghost use Rattle.seg_wrap.specs.Paragraphs.{GivesParagraph};
@@ -154,7 +154,7 @@ fn measured(alloc: Global, pieces: &[Piece]) -> Result<Vec<MeasuredSegment>, All
     Ok(segments)
 }
 
-// Where lines stand, of which the first begins at a place.
+// Where the lines of a paragraph stand, which begins at a place.
 fn spans(
     alloc: Global,
     start: usize,
@@ -162,19 +162,22 @@ fn spans(
     lines: &[BalancedLine],
 ) -> Result<Vec<Span>, AllocError>
     requires { EndWithPieces pieces.now lines.now }
-    ensures { IfOk result (λ spans. spans.items ≡ spans_at start pieces.now lines.now) }
+    ensures { IfOk result (λ spans. spans.items ≡ spans_at true start pieces.now lines.now) }
 {
     let mut spans = Vec::new(alloc);
     let mut start = start;
+    let mut is_first = true;
     'lines: for line in lines {
         let last = &pieces[line.end - 1];
         spans.push(Span {
             start,
             end: last.end,
             columns: line.columns,
+            is_first,
             is_mandatory: last.is_mandatory,
         })?;
         start = last.end;
+        is_first = false;
     }
     Ok(spans)
 }

@@ -9,13 +9,13 @@ ghost use Rattle.seg_wrap.specs.Wrapping.{rest_from};
 
 use crate::wrap::LineWrapper;
 use crate::wrap::balanced::BalancedParagraphs;
-use crate::wrap::wrapping::Wrapping;
+use crate::wrap::wrapping::{Room, Wrapping};
 use seg_text::indices::Utf16Indices;
 use std::alloc::AllocError;
 use std::fmt;
 
 impl<'data> LineWrapper<'data> {
-    ghost use Rattle.seg_wrap.specs.WrappedLines.{joined_units, paragraphs_of, utf16_lines_to_come, wrapped_units, wrapper_measure, wrapper_rules};
+    ghost use Rattle.seg_wrap.specs.WrappedLines.{joined_units, paragraphs_of, utf16_lines_to_come, wrapped_units, wrapped_within, wrapper_measure, wrapper_rules};
 
     /// The lines of possibly ill-formed UTF-16, each of at most these columns unless it is one segment. A surrogate that stands
     /// alone is as wide as U+FFFD, and stays as it is in the lines. Takes no memory.
@@ -23,11 +23,20 @@ impl<'data> LineWrapper<'data> {
         ensures lines { utf16_lines_to_come result ≡ wrapped_units utf16 (wrapper_measure self.entry) (wrapper_rules self.entry) columns units.now }
         ensures joined { joined_units (utf16_lines_to_come result) ≡ units.now }
     {
+        self.wrap_utf16_within(units, Room::even(columns))
+    }
+
+    /// The lines of possibly ill-formed UTF-16 where the first line of each paragraph has other columns than the rest, for a caller that indents
+    /// them. Each has at most its columns unless it is one segment. Takes no memory.
+    pub fn wrap_utf16_within<'s>(self, units: &'s [u16], room: Room) -> WrapUtf16Iterator<'data, 's>
+        ensures lines { utf16_lines_to_come result ≡ wrapped_within utf16 (wrapper_measure self.entry) (wrapper_rules self.entry) room units.now }
+        ensures joined { joined_units (utf16_lines_to_come result) ≡ units.now }
+    {
         let mut breaks = self.lines.segment_utf16(units);
         let _start = breaks.next();
         WrapUtf16Iterator {
             units,
-            lines: Wrapping::new(breaks, Utf16Indices::new(units), self.setting(columns)),
+            lines: Wrapping::new(breaks, Utf16Indices::new(units), room, self.measuring),
         }
     }
 
@@ -51,6 +60,7 @@ impl<'data> LineWrapper<'data> {
 pub struct WrappedUtf16Line<'s> {
     units: &'s [u16],
     columns: u128,
+    is_first: bool,
     is_mandatory: bool,
 }
 
@@ -69,6 +79,13 @@ impl<'s> WrappedUtf16Line<'s> {
         ensures { result ≡ (utf16_line_in self.now).columns }
     {
         self.columns
+    }
+
+    /// Whether it is the first line of its paragraph: of the text, or after a line that must end.
+    pub fn is_first(&self) -> bool
+        ensures { result ≡ (utf16_line_in self.now).is_first }
+    {
+        self.is_first
     }
 
     /// Whether a line must end there: at a mandatory break.
@@ -126,6 +143,7 @@ impl<'data, 's> Iterator for WrapUtf16Iterator<'data, 's> {
         Some(WrappedUtf16Line {
             units: part(self.units, line.start, line.end),
             columns: line.columns,
+            is_first: line.is_first,
             is_mandatory: line.is_mandatory,
         })
     }

@@ -1,13 +1,14 @@
 //! Lines, wrapped to columns at any breaks.
 
-ghost use Rattle.std.specs.Prelude.{◌≡◌, ◌≤◌, ◌∷◌, List, length, IfSome};
+ghost use Rattle.std.specs.Prelude.{◌≡◌, ◌-◌, ◌≤◌, ◌∷◌, List, length, IfSome};
 ghost use Rattle.seg_lines.specs.Lines.{lines_left};
 ghost use Rattle.seg_wrap.specs.Walk.{AreCuts, GivesLine, IsHeldPiece, IsFirstPiece, IsFirstSegment, line_at, lines_held, measure_of, rest_held, segment_at, segments_held};
-ghost use Rattle.seg_wrap.specs.Wrapping.{Cell, lines_from, rest_from, segments_from, wrapped_lines};
+ghost use Rattle.seg_wrap.specs.Wrapping.{Cell, bytes_columns, columns_in, even, room_beside, lines_from, rest_from, segments_from, wrapped_lines};
 
 use crate::wrap::breaks::{fork, next_break};
 use crate::wrap::extent::Extent;
 use crate::wrap::measure::Measuring;
+use crate::wrap::utf8_columns;
 use seg_lines::line::LineBreakIterator;
 use seg_text::cursor::Cursor;
 use std::marker::Model;
@@ -21,8 +22,57 @@ pub struct Span {
     pub end: usize,
     /// The columns that it takes, without its trailing white space.
     pub columns: u128,
+    /// Whether it is the first of its paragraph.
+    pub is_first: bool,
     /// Whether a line must end there.
     pub is_mandatory: bool,
+}
+
+/// How many columns lines have: fewer than a page where something else, such as an indent, stands before them. A paragraph begins at a text's
+/// start, and after each line that must end.
+#[derive(Clone, Copy, Debug, PartialEq, Eq)]
+pub struct Room {
+    /// The columns of the first line of each paragraph.
+    pub first: usize,
+    /// The columns of its other lines.
+    pub others: usize,
+}
+
+impl Room {
+    /// As many columns in each line.
+    pub fn even(columns: usize) -> Self
+        ensures { result ≡ even columns }
+    {
+        Room {
+            first: columns,
+            others: columns,
+        }
+    }
+
+    /// What so many columns leave beside an indent before the first line of each paragraph, and another before its other lines: 0 where an indent
+    /// has more. Indents are measured by character, with spaces at their ends.
+    pub fn beside(columns: usize, first: &str, others: &str) -> Self
+        ensures { result ≡ room_beside columns first.now others.now }
+    {
+        Room {
+            first: columns_beside(columns, first),
+            others: columns_beside(columns, others),
+        }
+    }
+
+    /// The columns of a line that is the first of its paragraph, or another.
+    pub fn columns(self, is_first: bool) -> usize
+        ensures { result ≡ columns_in self is_first }
+    {
+        if is_first { self.first } else { self.others }
+    }
+}
+
+// How many of so many columns are left beside an indent.
+fn columns_beside(columns: usize, indent: &str) -> usize
+    ensures { result ≡ columns - bytes_columns indent.now }
+{
+    (columns as u128).saturating_sub(utf8_columns(indent.as_bytes())) as usize
 }
 
 /// A piece of a text that ends where a line may.
@@ -37,12 +87,14 @@ pub(crate) struct Piece {
 #[derive(Clone, Copy)]
 pub(crate) struct Setting<'data> {
     /// The columns.
-    pub(crate) columns: usize,
+    pub(crate) room: Room,
+    /// Whether the next line begins a paragraph.
+    pub(crate) is_first: bool,
     /// How the characters of a segment are measured.
     pub(crate) measuring: Measuring<'data>,
 }
 
-/// The lines of a text, wrapped to so many columns.
+/// The lines of a text, wrapped to columns.
 pub(crate) struct Wrapping<'data, I: Cursor> {
     breaks: LineBreakIterator<'data, I>,
     // The text from the next line on.
@@ -74,7 +126,7 @@ impl<'data, I: Cursor> Model for Wrapping<'data, I> {
 
     ghost Value = { LinesLeft };
 
-    ghost view = { λ s. record { text = I.text s.rest; lines = lines_held (measure_of s.setting.measuring) s.setting.columns (I.text s.rest) s.held (lines_left s.breaks) } };
+    ghost view = { λ s. record { text = I.text s.rest; lines = lines_held (measure_of s.setting.measuring) s.setting.room s.setting.is_first (I.text s.rest) s.held (lines_left s.breaks) } };
 
     ghost invariant = { λ s. IsHeldPiece (measure_of s.setting.measuring) (I.text s.rest) s.held (lines_left s.breaks) × (I.text s.after ≡ rest_held (I.text s.rest) s.held) };
 }
@@ -84,20 +136,25 @@ impl<'data, I: Cursor> Wrapping<'data, I> {
     pub(crate) fn new(
         mut breaks: LineBreakIterator<'data, I>,
         text: I,
-        setting: Setting<'data>,
+        room: Room,
+        measuring: Measuring<'data>,
     ) -> Self
         requires { AreCuts (I.text text) (lines_left breaks) }
         ensures text { result.text ≡ I.text text }
-        ensures lines { result.lines ≡ wrapped_lines setting.entry.columns (segments_from (measure_of setting.entry.measuring) (I.text text) (lines_left breaks.entry)) }
+        ensures lines { result.lines ≡ wrapped_lines room (segments_from (measure_of measuring.entry) (I.text text) (lines_left breaks.entry)) }
     {
         let mut after = text.fork();
-        let held = next_piece(&mut breaks, &mut after, setting.measuring);
+        let held = next_piece(&mut breaks, &mut after, measuring);
         Wrapping {
             breaks,
             rest: text,
             after,
             held,
-            setting,
+            setting: Setting {
+                room,
+                is_first: true,
+                measuring,
+            },
         }
     }
 
@@ -140,10 +197,13 @@ impl<'data, I: Cursor> Wrapping<'data, I> {
         let start = self.rest.place();
         self.rest.seek(line.end);
         self.held = held;
+        let is_first = self.setting.is_first;
+        self.setting.is_first = line.is_mandatory;
         Some(Span {
             start,
             end: line.end,
             columns: line.extent.columns,
+            is_first,
             is_mandatory: line.is_mandatory,
         })
     }
@@ -184,18 +244,19 @@ fn next_line<I: Cursor>(
     requires cuts { AreCuts (rest_from first.end (I.text rest.now)) (lines_left breaks.old) }
     requires at { I.text after.old ≡ rest_from first.end (I.text rest.now) }
     ensures lines { let measure = measure_of setting.entry.measuring in
-        let limit = setting.entry.columns in
-        lines_from limit (segment_at measure (I.text rest.now) first) (segments_from measure (rest_from first.end (I.text rest.now)) (lines_left breaks.old))
-        ≡ line_at (I.text rest.now) result.0 ∷ lines_held measure limit (rest_from result.0.end (I.text rest.now)) result.1 (lines_left breaks.new) }
+        let room = setting.entry.room in
+        lines_from room setting.entry.is_first (segment_at measure (I.text rest.now) first) (segments_from measure (rest_from first.end (I.text rest.now)) (lines_left breaks.old))
+        ≡ line_at setting.entry.is_first (I.text rest.now) result.0 ∷ lines_held measure room result.0.is_mandatory (rest_from result.0.end (I.text rest.now)) result.1 (lines_left breaks.new) }
     ensures piece { (cells : List Cell) × IsFirstPiece (I.text rest.now) cells result.0 }
     ensures held { IsHeldPiece (measure_of setting.entry.measuring) (rest_from result.0.end (I.text rest.now)) result.1 (lines_left breaks.new) }
     ensures after { I.text after.new ≡ rest_held (rest_from result.0.end (I.text rest.now)) result.1 }
 {
     let mut line = first;
+    let columns = setting.room.columns(setting.is_first) as u128;
     let mut held = next_piece(breaks, after, setting.measuring);
     'line: while let Some(piece) = held {
         let extent = line.extent.joined(piece.extent);
-        if line.is_mandatory || (setting.columns as u128) < extent.columns {
+        if line.is_mandatory || columns < extent.columns {
             break 'line;
         }
         line = Piece { extent, ..piece };

@@ -15,7 +15,8 @@ use std::io::Write;
 
 impl Wrapper {
     /// Writes the balanced lines of a text, each without its trailing white space and with a line feed, and flushes: of all lines with room
-    /// in the columns those that leave the least ragged edge, paragraph by paragraph. Columns above 4,294,967,295 are as many. What is
+    /// in the columns those that leave the least ragged edge, paragraph by paragraph. The first line of a paragraph has as many columns as the
+    /// others, and columns above 4,294,967,295 are as many. What is
     /// ill-formed is written as it is. The errors are the writer's, and being out of memory.
     pub fn print_balanced<O: Write>(
         &self,
@@ -26,7 +27,7 @@ impl Wrapper {
         ensures { OnOk result (AppendsSome (O.contents out.old) (O.contents out.new) (IsBalancedOutput (wrapping_of self.now) text.now)) }
     {
         let wrapper = self.lines.wrapper(self.counted_clusters());
-        let columns = self.columns.min(u32::MAX as usize) as u32;
+        let columns = self.room.others.min(u32::MAX as usize) as u32;
         let mut paragraphs = wrapper.balanced_utf8(text, columns);
         self.print_paragraphs(alloc, text, &mut paragraphs, out)
     }
@@ -82,7 +83,12 @@ impl Wrapper {
         ensures { OnOk result (gathered.new.items ≡ gathered.old.items ++ shown_spans (wrapping_of self.now) text.now spans.now) }
     {
         'spans: for span in spans {
-            self.push_shown(&text[span.start..span.end], span.columns, gathered)?;
+            self.push_shown(
+                &text[span.start..span.end],
+                span.columns,
+                span.is_first,
+                gathered,
+            )?;
         }
         Ok(())
     }

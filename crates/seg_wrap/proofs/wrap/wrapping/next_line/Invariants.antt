@@ -8,8 +8,8 @@ abbrev pub invariant-line : goal.invariant-line
 invariant-line g l =
     let text = g.I.Cursor.text l.rest in
     let measure = measure_of l.setting.measuring in
-    IsGrowing measure l.setting.columns text
-    (lines_from l.setting.columns (segment_at measure text l.fn.first) (segments_from measure (rest_from l.fn.first.end text) (lines_left l.fn.breaks)))
+    IsGrowing measure l.setting.room l.setting.is_first text
+    (lines_from l.setting.room l.setting.is_first (segment_at measure text l.fn.first) (segments_from measure (rest_from l.fn.first.end text) (lines_left l.fn.breaks)))
     l.line l.held (lines_left l.breaks) (g.I.Cursor.text l.after)
 
 abbrev pub decreases-line : goal.decreases-line

@@ -12,13 +12,13 @@ use Rattle.segment_output.proofs.wrapper.Wrapper.print_all.Goals as goal
 pub loop-line-preserved : goal.loop-line-preserved
 loop-line-preserved g c =
     gathered-line (shown_line (wrapping_of c.args.self.now)) utf8_line_in c.loop-line.yielded c.in-Some.line _ _ _ _ c.loop-line.invariant
-    (c.in_ok-push_shown.ensures (utf8_line_in c.in-Some.line) (sym c.bytes.ensures) (sym c.columns.ensures))
+    (c.in_ok-push_shown.ensures (utf8_line_in c.in-Some.line) (sym c.bytes.ensures) (sym c.columns.ensures) (sym c.is_first.ensures))
 
 pub loop-line-preserved-in-Continue-branch-3 : goal.loop-line-preserved-in-Continue-branch-3
 loop-line-preserved-in-Continue-branch-3 g c =
     gathered-written _ _ _ _ _ _
     (gathered-line (shown_line (wrapping_of c.args.self.now)) utf8_line_in c.loop-line.yielded c.in-Some.line _ _ _ _ c.loop-line.invariant
-    (c.in_ok-push_shown.ensures (utf8_line_in c.in-Some.line) (sym c.bytes.ensures) (sym c.columns.ensures)))
+    (c.in_ok-push_shown.ensures (utf8_line_in c.in-Some.line) (sym c.bytes.ensures) (sym c.columns.ensures) (sym c.is_first.ensures)))
     c.in_ok-write_lines.ensures
 
 pub returns : goal.returns

@@ -10,4 +10,4 @@ use Rattle.segment_output.proofs.wrapper.Wrapper.push_spans.Goals as goal
 pub spans-preserved : goal.spans-preserved
 spans-preserved c =
     shown-more (λ (span : Span). shown_line (wrapping_of c.args.self.now) (line_at c.args.text.now span)) c.args.spans.now c.spans.span-index _ _ _ _ c.spans-test.true
-    c.spans.invariant (c.in_ok-push_shown.ensures (line_at c.args.text.now _) refl refl)
+    c.spans.invariant (c.in_ok-push_shown.ensures (line_at c.args.text.now _) refl refl refl)

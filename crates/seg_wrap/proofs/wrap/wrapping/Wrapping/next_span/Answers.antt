@@ -6,7 +6,7 @@ use Rattle.seg_wrap.proofs.wrap.wrapping.Wrapping.next_span.Goals as goal
 
 pub returns : goal.returns
 returns g c =
-    let span = given-span (measure_of c.self.inside.setting.measuring) _ _ _ _ _ _ _ _ _ c.in_ok-first.was c.next_line-held.ensures.piece (c.seek.ensures _ c.next_line-held.ensures.piece.1.at) c.next_line-held.ensures.lines in (
+    let span = given-span (measure_of c.self.inside.setting.measuring) _ _ _ _ _ _ _ _ _ _ c.in_ok-first.was c.next_line-held.ensures.piece (c.seek.ensures _ c.next_line-held.ensures.piece.1.at) c.next_line-held.ensures.lines in (
       span.0,
       (
         ap (λ (left : LinesLeft). left.lines) (sym c.self.view_is) ∙ span.1.0,

@@ -4,7 +4,7 @@ use Rattle.seg_lines.specs.Lines.{line_rules, lines_left}
 use Rattle.seg_wrap.proofs.SegmentsJoined.{units-joined}
 use Rattle.seg_wrap.proofs.Starts.{after-first}
 use Rattle.seg_wrap.proofs.Texts.{utf8-text}
-use Rattle.seg_wrap.proofs.wrap.LineWrapper.wrap_str.Goals as goal
+use Rattle.seg_wrap.proofs.wrap.LineWrapper.wrap_str_within.Goals as goal
 
 pub new-requires-2 : goal.new-requires-2
 new-requires-2 c =
@@ -18,4 +18,4 @@ returns-clause-joined c =
     after-first c.args.text.now (utf8 c.args.text.now) (line_boundaries_by (line_rules c.args.self.lines)) c.segment_str-breaks.result.boundaries c.next-start.new.self.boundaries _
     (utf8-text c.args.text.now) c.segment_str-breaks.ensures.boundaries c.segment_str-breaks.ensures.cover c.next-start.ensures.steps.1 in
     rw (c.new-2.ensures.lines, c.new-2.ensures.text, c.new.ensures)
-    (units-joined _ c.setting.result.columns c.args.text.now (utf8 c.args.text.now) (lines_left c.next-start.new.self) (utf8-text c.args.text.now) started.1)
+    (units-joined _ c.args.room c.args.text.now (utf8 c.args.text.now) (lines_left c.next-start.new.self) (utf8-text c.args.text.now) started.1)

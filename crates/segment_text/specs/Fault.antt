@@ -1,6 +1,6 @@
 -- What ends a run early.
-use Rattle.segment_output.specs.declared.fault.Fault.{Fault}
-use Rattle.segment_output.specs.declared.fault.Fault.TheVariants.{Read, MemoryBefore, Write, MemoryAmid}
+use Rattle.segment_text.specs.declared.fault.Fault.{Fault}
+use Rattle.segment_text.specs.declared.fault.Fault.TheVariants.{Read, MemoryBefore, Write, MemoryAmid}
 
 -- a fault of what reads, or of the memory that it takes
 abbrev pub IsReadFault : Fault → Type 0

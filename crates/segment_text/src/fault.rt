@@ -1,5 +1,5 @@
 //! What ends a run early.
-ghost use Rattle.segment_output.specs.Fault.{IsReadFault};
+ghost use Rattle.segment_text.specs.Fault.{IsReadFault};
 
 use std::io;
 use std::io::ErrorKind;

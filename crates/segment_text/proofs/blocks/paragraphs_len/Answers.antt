@@ -1,7 +1,7 @@
 -- Between two line feeds stands nothing or what is blank.
 use Rattle.std.proofs.Common.{ℕ, ◌<◌, ◌==◌, arith, ap, sym, ◌∙◌}
-use Rattle.segment_output.proofs.SplitText.{blank-end, first-bytes, within-take}
-use Rattle.segment_output.proofs.parts.paragraphs_len.Goals as goal
+use Rattle.segment_text.proofs.WholeLines.{blank-end, first-bytes, within-take}
+use Rattle.segment_text.proofs.blocks.paragraphs_len.Goals as goal
 
 pub lines-init : goal.lines-init
 lines-init c = (c.in-Some.ensures.0.high, c.in-Some.ensures.1)
