@@ -7,6 +7,7 @@ mod Picks
 mod Ends
 mod Walks
 mod Boundaries
+mod Sides
 mod Waits
 mod Texts
 mod Parts
@@ -15,33 +16,28 @@ pub mod Faultless
 pub mod MachineTests
 pub mod Scripts
 mod Properties
-mod Knowledge
-mod Tables
-mod Contexts
-mod Clusters
-mod ClusterFaults
 mod Sequences
 mod SentenceSymbols
 mod SentenceKnowledge
 mod SentenceTables
 mod SentenceContexts
 mod SentenceWalks
-mod SentenceFaults
 mod WordSymbols
 mod WordKnowledge
 mod WordTables
 mod WordContexts
 mod WordWalks
-mod WordFaults
 mod WordSequences
 mod SentenceSequences
 mod ClusterCertificate
 mod WordCertificate
 mod SentenceCertificate
+mod Faults
 mod RuleLaws
+mod RowPlaces
+mod ClusterPlaces
 mod TypedStates
 mod TypedSymbols
 mod TypedPicks
 mod TypedBoundaries
-mod TypedFaults
 mod TypeExamples

@@ -17,7 +17,7 @@ use Rattle.icu_segmenter_uax29.specs.Clusters.{cluster_machine}
 use Rattle.icu_segmenter_uax29.specs.Neighbours.{IsBoundary, IsJoined, StayTogether, EndsInWholeFlags, AllExtend, AllInConjunct}
 use Rattle.icu_segmenter_uax29.specs.Properties.{gcb_of, incb_of, pict_of}
 use Rattle.icu_segmenter_uax29.proofs.Boundaries.{boundaries-break}
-use Rattle.icu_segmenter_uax29.proofs.Clusters.{rule-ends, clusters-are}
+use Rattle.icu_segmenter_uax29.proofs.ClusterPlaces.{rule-ends, clusters-are}
 use Rattle.icu_segmenter_uax29.proofs.Lists.{every, passes}
 use Rattle.icu_segmenter_uax29.proofs.Properties.{symbol, symbol-says}
 use Rattle.icu_segmenter_uax29.proofs.Tests.{implied, or-true}
