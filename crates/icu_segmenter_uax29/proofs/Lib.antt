@@ -5,10 +5,8 @@ mod Entries
 mod RangeSymbols
 mod Picks
 mod Ends
-mod Walks
 mod Boundaries
 mod Sides
-mod Waits
 mod Texts
 mod Parts
 pub mod Segments
@@ -18,15 +16,7 @@ pub mod Scripts
 mod Properties
 mod Sequences
 mod SentenceSymbols
-mod SentenceKnowledge
-mod SentenceTables
-mod SentenceContexts
-mod SentenceWalks
 mod WordSymbols
-mod WordKnowledge
-mod WordTables
-mod WordContexts
-mod WordWalks
 mod WordSequences
 mod SentenceSequences
 mod ClusterCertificate
@@ -36,6 +26,9 @@ mod Faults
 mod RuleLaws
 mod RowPlaces
 mod ClusterPlaces
+mod Bases
+mod SentencePlaces
+mod WordPlaces
 mod TypedStates
 mod TypedSymbols
 mod TypedPicks

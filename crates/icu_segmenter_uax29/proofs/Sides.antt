@@ -93,7 +93,7 @@ unfoldable pub joined : List Row → (left right : Pattern → Bool) → Bool �
 joined [] left right otherwise = otherwise
 joined (row ∷ rows) left right otherwise = cond (left row.left && right row.right) (row.verdict == 0) (joined rows left right otherwise)
 
-joins-either : (b : Bool) (v w : ℕ) → (cond b v w == 0) ≡ cond b (v == 0) (w == 0)
+pub joins-either : (b : Bool) (v w : ℕ) → (cond b v w == 0) ≡ cond b (v == 0) (w == 0)
 joins-either true v w = refl
 joins-either false v w = refl
 

@@ -9,15 +9,14 @@ use Rattle.seg_text.specs.declared.boundary.Boundary.{Boundary}
 use Rattle.seg_text.specs.Boundaries.{Stretch, boundary, later_boundaries, later_boundaries_within, offsets, shift_all, start}
 use Rattle.seg_machine.specs.Machine.{Machine}
 use Rattle.seg_machine.specs.Pick.{machine_boundaries, machine_stretch}
+use Rattle.seg_rules.proofs.Law.{shift-shift, shift-zero}
 use Rattle.icu_segmenter_uax29.specs.Pieces.{piece_ends}
 use Rattle.icu_segmenter_uax29.specs.TypedWords.{typed_word_machine}
 use Rattle.icu_segmenter_uax29.specs.Words.{word_machine, words}
 use Rattle.icu_segmenter_uax29.specs.WordTypes.{typed_ends, word_type}
 use Rattle.icu_segmenter_uax29.proofs.Picks.{stretch-reach}
-use Rattle.icu_segmenter_uax29.proofs.TypedPicks.{stretch-typed}
-use Rattle.icu_segmenter_uax29.proofs.Waits.{start-reaches}
-use Rattle.icu_segmenter_uax29.proofs.Walks.{shift-shift, shift-zero}
-use Rattle.icu_segmenter_uax29.proofs.WordWalks.{fits, follows, known, meets, word-plain, words-are}
+use Rattle.icu_segmenter_uax29.proofs.TypedPicks.{stretch-typed, word-plain, word-reaches}
+use Rattle.icu_segmenter_uax29.proofs.WordPlaces.{words-are}
 
 -- ---- the code points of pieces
 
@@ -69,7 +68,7 @@ unfolding later_boundaries_within typed_places
 typed-places zero n cs bound = refl
 typed-places (suc most) n [] bound = refl
 typed-places (suc most) n (c ∷ cs) bound =
-    let (k, far) = start-reaches is_word_break word_machine 23 known fits meets follows c cs in
+    let (k, far) = word-reaches c cs in
     let typed = stretch-typed (c ∷ cs) k far in
     let plain = stretch-reach word_machine 23 (c ∷ cs) k word-plain far in
     let end = n + suc k in

@@ -15,13 +15,56 @@ use Rattle.icu_segmenter_uax29.specs.WordTypes.{changed, plain_symbol, type_afte
 use Rattle.icu_segmenter_uax29.specs.WordValues.{word_break_of}
 use Rattle.icu_segmenter_uax29.proofs.Entries.{Entry, accepts}
 use Rattle.icu_segmenter_uax29.proofs.Lists.{every, every-at, none-from, option-cases}
-use Rattle.icu_segmenter_uax29.proofs.Picks.{entered, entered-none, entered-some, grown, reach, reach-end, reach-none, reach-some, reach-within, run-end}
+use Rattle.icu_segmenter_uax29.proofs.Picks.{IsPlain, entered, entered-none, entered-some, grown, reach, reach-accepts, reach-end, reach-none, reach-some, reach-within, run-end}
 use Rattle.icu_segmenter_uax29.proofs.RangeSymbols.{symbol_in}
+use Rattle.icu_segmenter_uax29.proofs.Sides.{for-text, for_text}
 use Rattle.icu_segmenter_uax29.proofs.Tests.{not-true}
 use Rattle.icu_segmenter_uax29.proofs.TypedStates.{plain_states, types}
 use Rattle.icu_segmenter_uax29.proofs.TypedSymbols.{typed-says}
-use Rattle.icu_segmenter_uax29.proofs.WordSymbols.{symbol as plain_symbol_of}
-use Rattle.icu_segmenter_uax29.proofs.WordWalks.{word-plain}
+use Rattle.icu_segmenter_uax29.proofs.WordSymbols.{symbol as plain_symbol_of, symbol-says as word-says}
+
+-- ---- the machine of words: each state accepts with status 0 or goes on, and START leads each symbol to one that accepts
+
+abbrev is_inside : ℕ → ℕ → Bool
+is_inside symbol q = option_map_or (λ t. nat_lt t 23) (step word_machine q symbol) true
+
+abbrev is_accepted : ℕ → Bool
+is_accepted symbol = option_map_or (λ t. accepts (state_at word_machine t)) (step word_machine 0 symbol) false
+
+word-ends : all_below (λ q. not (is_some (step word_machine q 0))) 23 ≡ true
+unfolding all_below step word_machine
+word-ends = refl
+
+word-inside : all_below (λ symbol. all_below (is_inside symbol) 23) 22 ≡ true
+unfolding all_below step word_machine
+word-inside = refl
+
+word-accepted : for_text 22 is_accepted ≡ true
+unfolding all_below step state_at word_machine
+word-accepted = refl
+
+pub word-plain : IsPlain word_machine 23
+unfolding word_machine
+word-plain =
+    record {
+      states = refl;
+      some = omega arith;
+      ends = λ q below. none-from _ (all_below-at (λ q. not (is_some (step word_machine q 0))) 23 q word-ends below);
+      leads = λ q c t below leads. ltb-true t 23
+          (ap (λ next. option_map_or (λ t. nat_lt t 23) next true) (sym leads)
+          ∙ all_below-at (is_inside (plain_symbol_of c)) 23 q
+          (all_below-at (λ symbol. all_below (is_inside symbol) 23) 22 (plain_symbol_of c) word-inside (word-says c).below) below);
+    }
+
+some-next : (next : Option ℕ) (test : ℕ → Bool) → option_map_or test next false ≡ true → (t : ℕ) × (next ≡ Some t) × (test t ≡ true)
+some-next None test h = cc
+some-next (Some t) test h = (t, refl, h)
+
+pub word-reaches : (c : ℕ) (cs : List ℕ) → (n : ℕ) × (reach word_machine 0 (c ∷ cs) ≡ suc n)
+word-reaches c cs =
+    let (t, leads, is) = some-next (step word_machine 0 (plain_symbol_of c)) (λ t. accepts (state_at word_machine t))
+    (for-text 22 is_accepted (plain_symbol_of c) word-accepted (word-says c).some (word-says c).below) in
+    (reach word_machine t cs, reach-accepts word_machine 0 c t cs leads is)
 
 -- what a state knows: which state of the machine of words it is, and the type of the word that was read
 abbrev under : ℕ → ℕ

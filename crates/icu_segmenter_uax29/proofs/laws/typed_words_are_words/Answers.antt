@@ -5,7 +5,7 @@ use Rattle.seg_machine.specs.Pick.{machine_boundaries}
 use Rattle.icu_segmenter_uax29.specs.TypedWords.{typed_word_machine}
 use Rattle.icu_segmenter_uax29.proofs.Segments.{finds-pieces}
 use Rattle.icu_segmenter_uax29.proofs.TypedBoundaries.{bounds-are}
-use Rattle.icu_segmenter_uax29.proofs.WordWalks.{words-are}
+use Rattle.icu_segmenter_uax29.proofs.WordPlaces.{words-are}
 use Rattle.icu_segmenter_uax29.proofs.laws.typed_words_are_words.Goals as goal
 
 pub returns-clause-same : goal.returns-clause-same
