@@ -1,9 +1,7 @@
 pub mod Tests
 pub mod Lists
 pub mod Cells
-mod Entries
 mod RangeSymbols
-mod Picks
 mod Ends
 mod Boundaries
 mod Sides

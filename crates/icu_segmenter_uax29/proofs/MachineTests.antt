@@ -14,7 +14,6 @@ use Rattle.seg_data.specs.Faults.{HasRangeFault}
 use Rattle.seg_data.specs.Table.{named_values}
 use Rattle.seg_text.specs.declared.boundary.Boundary.{Boundary}
 use Rattle.seg_text.specs.Boundaries.{boundary}
-use Rattle.seg_machine.specs.declared.provider.Acceptance.{Acceptance}
 use Rattle.seg_machine.specs.declared.provider.Acceptance.TheVariants.{Continue, Accept, Conditional}
 use Rattle.seg_machine.specs.Machine.{IsSymbolOf, Machine, run, scan, state_after_ends, state_at, step, symbol_count}
 use Rattle.seg_machine.specs.MachineFaults.{HasMachineFault, HasTextSymbols, IsChecked, IsStray, NamesPast}
@@ -22,11 +21,9 @@ use Rattle.seg_machine.specs.Pick.{HasStall, acceptance_status, first_condition,
 use Rattle.seg_machine.proofs.Bare.{stall_free-from}
 use Rattle.icu_segmenter_uax29.proofs.Faultless.{is_next, is_range, is_symbol, next-state, no-range-fault, rises}
 use Rattle.icu_segmenter_uax29.proofs.Lists.{any-passes, bool-cases, every, every-at, none-from, option-cases}
+use Rattle.icu_segmenter_uax29.proofs.RangeSymbols.{Entry}
 use Rattle.icu_segmenter_uax29.proofs.Tests.{either, implied, implies, not-true}
 use Rattle.icu_segmenter_uax29.proofs.Cells.{cell-at, cells, column-of, row-of}
-
-abbrev Entry : Type 0
-Entry = Acceptance × Option ℕ
 
 -- a value is the symbol of a text, or means an entry of the map
 abbrev is_value : ℕ → ℕ → ℕ → ℕ → Bool
