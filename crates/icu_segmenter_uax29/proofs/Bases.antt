@@ -1,15 +1,17 @@
 -- Rows below that of marks, where these are read with what they follow: the rows are a rule of the kit that passes over marks.
-use Rattle.std.proofs.Common.{◌≡◌, ℕ, Bool, true, false, cond, not, ◌&&◌, ◌||◌, ◌==◌, Option, Some, None, List, [], ◌∷◌, ◌++◌, unwrap_or, refl, sym, ap, subst, ◌∙◌, inl, inr}
+use Rattle.std.proofs.Common.{◌≡◌, ℕ, ◌<◌, Bool, true, false, cond, not, ◌&&◌, ◌||◌, ◌==◌, Option, Some, None, List, [], ◌∷◌, ◌++◌, unwrap_or, refl, sym, ap, subst, ◌∙◌, inl, inr}
+use Rattle.std.specs.Option.{is_some}
+use Rattle.std.proofs.lemmas.Bool.{and_parts}
 use Rattle.unicode_segmentation.specs.Segments.{Rule}
-use Rattle.unicode_segmentation.proofs.BoolLemmas.{not_swap}
+use Rattle.unicode_segmentation.proofs.BoolLemmas.{not_swap, same, same-true}
 use Rattle.seg_machine.specs.Machine.{Machine, symbols_of}
 use Rattle.seg_rules.specs.Plain.{bases_after, bases_before, first_row, is_base, is_marked, plain_verdict}
 use Rattle.seg_rules.specs.RowRules.{RowRules, has}
 use Rattle.icu_segmenter_uax29.proofs.Lists.{bool-cases}
 use Rattle.icu_segmenter_uax29.proofs.RangeSymbols.{symbol_in}
 use Rattle.icu_segmenter_uax29.proofs.RowPlaces.{RowsAre}
-use Rattle.icu_segmenter_uax29.proofs.Sides.{joined, joined-is, joins-either, left_by, right_by}
-use Rattle.icu_segmenter_uax29.proofs.Tests.{clash}
+use Rattle.icu_segmenter_uax29.proofs.Sides.{for-flags, for-text, for_flags, for_text, joined, joined-is, joins-either, left_by, right_by}
+use Rattle.icu_segmenter_uax29.proofs.Tests.{clash, not-true}
 
 base-of : (mark past bare : Bool) → (bare && mark) ≡ false → ((mark && past) || (true && not bare)) ≡ not bare
 base-of true true false h = refl
@@ -21,6 +23,16 @@ base-of false past true h = refl
 pub not-bare : (bare mark : Bool) → (bare && mark) ≡ false → mark ≡ true → bare ≡ false
 not-bare false mark h is = refl
 not-bare true mark h is = clash is h
+
+-- the rows above say of two symbols what a rule of pairs says, and where it says nothing, the second is no mark, and something is so of both
+abbrev pub agrees : RowRules → (pair : ℕ → ℕ → Option Bool) (free : ℕ → ℕ → Bool) (s t : ℕ) → List Bool → Bool
+agrees rules pair free s t (joins ∷ []) =
+    same (joined rules.above (left_by (s ∷ [])) (right_by t []) (cond (has rules.marks t && not (has rules.bare s)) true joins)) (not (unwrap_or (pair s t) (not joins)))
+    && (is_some (pair s t) || (not (has rules.marks t) && free s t))
+agrees rules pair free s t _ = true
+
+abbrev pub all_agree : RowRules → (pair : ℕ → ℕ → Option Bool) (free : ℕ → ℕ → Bool) → ℕ → Bool
+all_agree rules pair free count = for_text count (λ s. for_text count (λ t. for_flags 1 (agrees rules pair free s t)))
 
 module _ (rules : RowRules) (m : Machine) (marked : rules.has_marks ≡ true)
     (apart : (c : ℕ) → (has rules.bare (symbol_in m c) && has rules.marks (symbol_in m c)) ≡ false) where
@@ -81,15 +93,24 @@ module _ (rules : RowRules) (m : Machine) (marked : rules.has_marks ≡ true)
       (λ i. first_row rules.below bases (cond (plain i && base) (later (plain i) (marked i)) (cond (plain i) rules.alone t ∷ later (plain i) (marked i))) 0 == 0)
       ∙ joined-is rules.below bases t (bases_after rules (not (has rules.bare t)) (symbols_of m after)) 0
 
-  -- a rule of pairs of symbols, and where that says nothing, of what the rows below read
-  module _ (rule : Rule) (pair : ℕ → ℕ → Option Bool) (otherwise : (c d : ℕ) (before after : List ℕ) → Bool)
+  -- a rule of pairs of symbols, which are those of the rows above, and where that says nothing, of what the rows below read
+  module _ (rule : Rule) (pair : ℕ → ℕ → Option Bool) (free : ℕ → ℕ → Bool) (count : ℕ)
+      (inside : (c : ℕ) → (0 < symbol_in m c) × (symbol_in m c < count))
+      (agree : all_agree rules pair free count ≡ true)
+      (short : (s t : ℕ) (before after : List ℕ) (joins : Bool)
+      → joined rules.above (left_by (s ∷ before)) (right_by t after) joins ≡ joined rules.above (left_by (s ∷ [])) (right_by t []) joins)
+      (otherwise : (c d : ℕ) (before after : List ℕ) → Bool)
       (by_pairs : (c d : ℕ) (before after : List ℕ) → rule (c ∷ before) (d ∷ after) ≡ unwrap_or (pair (symbol_in m c) (symbol_in m d)) (otherwise c d before after))
-      (above : (c d : ℕ) (before after : List ℕ) (joins : Bool)
-      → joined rules.above (left_by (symbol_in m c ∷ before)) (right_by (symbol_in m d) after)
-      (cond (has rules.marks (symbol_in m d) && not (has rules.bare (symbol_in m c))) true joins)
-      ≡ not (unwrap_or (pair (symbol_in m c) (symbol_in m d)) (not joins)))
-      (unread : (c d : ℕ) → pair (symbol_in m c) (symbol_in m d) ≡ None → has rules.marks (symbol_in m d) ≡ false)
-      (below : (c d : ℕ) (before after : List ℕ) → pair (symbol_in m c) (symbol_in m d) ≡ None → joins_below c d before after ≡ not (otherwise c d before after)) where
+      (below : (c d : ℕ) (before after : List ℕ) → has rules.marks (symbol_in m d) ≡ false → free (symbol_in m c) (symbol_in m d) ≡ true
+      → joins_below c d before after ≡ not (otherwise c d before after)) where
+    agreeing : (c d : ℕ) (joins : Bool) → agrees rules pair free (symbol_in m c) (symbol_in m d) (joins ∷ []) ≡ true
+    agreeing c d joins =
+        let s = symbol_in m c in
+        let t = symbol_in m d in
+        for-flags (agrees rules pair free s t) (joins ∷ [])
+        (for-text count (λ t. for_flags 1 (agrees rules pair free s t)) t
+        (for-text count (λ s. for_text count (λ t. for_flags 1 (agrees rules pair free s t))) s agree (inside c).0 (inside c).1) (inside d).0 (inside d).1)
+
     choice : (found : Option Bool) (joins breaks : Bool) → (found ≡ None → joins ≡ not breaks) → not (unwrap_or found (not joins)) ≡ not (unwrap_or found breaks)
     choice None joins breaks h = ap (λ b. not (not b)) (h refl) ∙ ap not (not_swap (not breaks) breaks refl)
     choice (Some b) joins breaks h = refl
@@ -108,6 +129,12 @@ module _ (rules : RowRules) (m : Machine) (marked : rules.has_marks ≡ true)
         ∙ ap (joined rules.above (left_by (symbols_of m (c ∷ before) ++ (0 ∷ []))) (right_by t (symbols_of m after ++ (0 ∷ []))))
         (joins-either (rules.has_marks && is_marked rules base (symbols_of m (d ∷ after))) 0 lower
         ∙ (λ i. cond (marked i && (has rules.marks t && base-is c before i)) true (lower == 0)))
-        ∙ above c d (symbols_of m before ++ (0 ∷ [])) (symbols_of m after ++ (0 ∷ [])) (lower == 0)
-        ∙ choice (pair s t) (lower == 0) (otherwise c d before after) (λ none. below-is base d bases after (unread c d none) ∙ below c d before after none)
+        ∙ short s t (symbols_of m before ++ (0 ∷ [])) (symbols_of m after ++ (0 ∷ [])) (cond (has rules.marks t && not (has rules.bare s)) true (lower == 0))
+        ∙ same-true _ _ (and_parts _ _ (agreeing c d (lower == 0))).0
+        ∙ choice (pair s t) (lower == 0) (otherwise c d before after)
+        (λ none.
+        let found = ap (λ found. is_some found || (not (has rules.marks t) && free s t)) (sym none) ∙ (and_parts _ _ (agreeing c d true)).1 in
+        let parts = and_parts (not (has rules.marks t)) _ found in
+        let plain = not-true _ parts.0 in
+        below-is base d bases after plain ∙ below c d before after plain parts.1)
         ∙ ap not (sym (by_pairs c d before after))

@@ -1,6 +1,5 @@
 -- The rows of sentences are the rules of the kit, SB3 to SB998.
-use Rattle.std.proofs.Common.{◌≡◌, ℕ, Bool, true, false, cond, not, ◌&&◌, ◌||◌, ◌==◌, if◌then◌else◌, Option, None, List, [], ◌∷◌, map, unwrap_or, refl, sym, ap, subst, ◌∙◌}
-use Rattle.std.specs.Option.{is_some}
+use Rattle.std.proofs.Common.{◌≡◌, ℕ, Bool, true, false, cond, not, ◌&&◌, ◌||◌, ◌==◌, if◌then◌else◌, Option, List, [], ◌∷◌, map, unwrap_or, refl, sym, ap, subst, ◌∙◌}
 use Rattle.std.proofs.lemmas.Bool.{and_parts}
 use Rattle.ucd_table.proofs.TrieCheck.{all_below}
 use Rattle.ucd_breaks.specs.SentenceBreak.{sentence_break}
@@ -19,7 +18,7 @@ use Rattle.seg_machine.specs.Machine.{symbols_of}
 use Rattle.icu_segmenter_uax29.specs.SentenceRules.{sentence_rules}
 use Rattle.icu_segmenter_uax29.specs.SentenceValues.{value_of_symbol}
 use Rattle.icu_segmenter_uax29.specs.Sentences.{sentence_machine}
-use Rattle.icu_segmenter_uax29.proofs.Bases.{EndsBare, joins_below, base-is, bases-are, not-bare, rows-are as rows-by-pairs}
+use Rattle.icu_segmenter_uax29.proofs.Bases.{all_agree, EndsBare, joins_below, base-is, bases-are, not-bare, rows-are as rows-by-pairs}
 use Rattle.icu_segmenter_uax29.proofs.Boundaries.{EndsAre, HasEnds}
 use Rattle.icu_segmenter_uax29.proofs.RowPlaces.{RowsAre, ends-follow}
 use Rattle.icu_segmenter_uax29.proofs.RuleLaws.{sentence-follows}
@@ -268,23 +267,13 @@ comes-is base (c ∷ cs) =
 abbrev pair : ℕ → ℕ → Option Bool
 pair s t = break_by_pair (value_of_symbol s) (value_of_symbol t)
 
-abbrev above_agrees : (s t : ℕ) → List Bool → Bool
-above_agrees s t (joins ∷ []) =
-    same (joined numbered_above (left_by (s ∷ [])) (right_by t []) (cond (has 96 t && not (has 28 s)) true joins)) (not (unwrap_or (pair s t) (not joins)))
-    && (is_some (pair s t) || (not (has 96 t) && not (has 28 s)))
-above_agrees s t _ = true
+-- where the rules on pairs say nothing, no end of a paragraph stands before
+abbrev free : ℕ → ℕ → Bool
+free s t = not (has 28 s)
 
-all_above : for_text 16 (λ s. for_text 16 (λ t. for_flags 1 (above_agrees s t))) ≡ true
-unfolding all_below for_flags joined numbered_above reached after_item after_one
-all_above = refl
-
-above : (c d : ℕ) (joins : Bool) → above_agrees (symbol c) (symbol d) (joins ∷ []) ≡ true
-above c d joins =
-    let first = symbol-says c in
-    let second = symbol-says d in
-    for-flags (above_agrees (symbol c) (symbol d)) (joins ∷ [])
-    (for-text 16 (λ t. for_flags 1 (above_agrees (symbol c) t)) (symbol d)
-    (for-text 16 (λ s. for_text 16 (λ t. for_flags 1 (above_agrees s t))) (symbol c) all_above first.some first.below) second.some second.below)
+pairs-agree : all_agree numbered_rules pair free 16 ≡ true
+unfolding all_below for_flags joined numbered_above numbered_rules reached after_item after_one
+pairs-agree = refl
 
 -- what the left sides say of what is known, and the right sides of what comes
 abbrev left_side : Known → Bool → Pattern → Bool
@@ -319,12 +308,6 @@ all_below_agree : for_text 16 (λ t. for_flags 8 (below_agrees t)) ≡ true
 unfolding all_below for_flags joined numbered_below
 all_below_agree = refl
 
-unread : (c d : ℕ) → pair (symbol c) (symbol d) ≡ None → (has 96 (symbol d) ≡ false) × (has 28 (symbol c) ≡ false)
-unread c d none =
-    let found = ap (λ found. is_some found || (not (has 96 (symbol d)) && not (has 28 (symbol c)))) (sym none) ∙ (and_parts _ _ (above c d true)).1 in
-    let parts = and_parts (not (has 96 (symbol d))) _ found in
-    (not-true _ parts.0, not-true _ parts.1)
-
 -- what the kit says where the rules on pairs say nothing
 abbrev otherwise : (c d : ℕ) (before after : List ℕ) → Bool
 otherwise c d before after =
@@ -339,22 +322,21 @@ by-pairs c d before after =
     ∙ (λ i. unwrap_or (break_by_pair (first.value i) (second.value i))
     (verdict (known_of (context_of (c ∷ before))) (second.value i) (lower_after (second.value i) (reaches_lower (map sentence_break after)))))
 
-below : (c d : ℕ) (before after : List ℕ) → pair (symbol c) (symbol d) ≡ None
+below : (c d : ℕ) (before after : List ℕ) → has numbered_rules.marks (symbol d) ≡ false → free (symbol c) (symbol d) ≡ true
     → joins_below numbered_rules sentence_machine marked apart c d before after ≡ not (otherwise c d before after)
 unfolding numbered_rules
-below c d before after none =
+below c d before after plain unended =
     let t = symbol d in
-    let plain = unread c d none in
     let bases = bases_before numbered_rules (symbols_of sentence_machine (c ∷ before)) in
     let rest = bases_after numbered_rules (not (has 28 t)) (symbols_of sentence_machine after) in
     let found = found-is (c ∷ before) in
     let known = known_of (context_of (c ∷ before)) in
     let ahead = reaches_lower (map sentence_break after) in
-    let ended = optional-none 28 (after_star 128 (after_star 16384 (after_one 12288 anywhere))) bases (bare-is (c ∷ before) ∙ plain.1) ∙ ap (λ (known : Known). known.5) found in
+    let ended = optional-none 28 (after_star 128 (after_star 16384 (after_one 12288 anywhere))) bases (bare-is (c ∷ before) ∙ not-true _ unended) ∙ ap (λ (known : Known). known.5) found in
     sides-are t bases rest
     ∙ (λ i. joined numbered_below (left_side (found i) (ended i)) (right_side t (comes-is (not (has 28 t)) after i)) true)
     ∙ same-true _ _ (implied (not (has 96 t)) _ (for-flags (below_agrees t) (known.0 ∷ known.1 ∷ known.2 ∷ known.3 ∷ known.4 ∷ known.5 ∷ known.6 ∷ ahead ∷ [])
-    (for-text 16 (λ t. for_flags 8 (below_agrees t)) t all_below_agree (symbol-says d).some (symbol-says d).below)) (ap not plain.0))
+    (for-text 16 (λ t. for_flags 8 (below_agrees t)) t all_below_agree (symbol-says d).some (symbol-says d).below)) (ap not plain))
 
 above-sides : (s t : ℕ) (before after : List ℕ) (joins : Bool)
     → joined numbered_above (left_by (s ∷ before)) (right_by t after) joins ≡ joined numbered_above (left_by (s ∷ [])) (right_by t []) joins
@@ -364,11 +346,8 @@ above-sides s t before after joins = refl
 rows-are : RowsAre is_sentence_break numbered_rules sentence_machine
 unfolding numbered_rules
 rows-are =
-    rows-by-pairs numbered_rules sentence_machine marked apart is_sentence_break pair otherwise by-pairs
-    (λ c d before after joins.
-    above-sides (symbol c) (symbol d) before after (cond (has 96 (symbol d) && not (has 28 (symbol c))) true joins)
-    ∙ same-true _ _ (and_parts _ _ (above c d joins)).0)
-    (λ c d none. (unread c d none).0) below
+    rows-by-pairs numbered_rules sentence_machine marked apart is_sentence_break pair free 16
+    (λ c. ((symbol-says c).some, (symbol-says c).below)) pairs-agree above-sides otherwise by-pairs below
 
 pub rule-ends : HasEnds is_sentence_break
 unfolding is_sentence_break

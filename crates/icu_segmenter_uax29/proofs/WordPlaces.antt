@@ -1,6 +1,5 @@
 -- The rows of words are the rules of the kit, WB3 to WB999.
-use Rattle.std.proofs.Common.{◌≡◌, ℕ, ◌<◌, Bool, true, false, cond, not, ◌&&◌, ◌||◌, ◌==◌, Option, None, List, [], ◌∷◌, take, unwrap_or, refl, sym, ap, ap₂, subst, ◌∙◌, inl, inr, eqb-true, arith}
-use Rattle.std.specs.Option.{is_some}
+use Rattle.std.proofs.Common.{◌≡◌, ℕ, ◌<◌, Bool, true, false, cond, not, ◌&&◌, ◌||◌, ◌==◌, Option, List, [], ◌∷◌, take, unwrap_or, refl, sym, ap, ap₂, subst, ◌∙◌, inl, inr, eqb-true, arith}
 use Rattle.std.proofs.lemmas.Bool.{and_parts}
 use Rattle.ucd_table.proofs.TrieCheck.{all_below, all_below-at}
 use Rattle.ucd_breaks.specs.WordBreak.{word_break}
@@ -17,12 +16,12 @@ use Rattle.seg_machine.specs.Machine.{symbols_of}
 use Rattle.icu_segmenter_uax29.specs.WordRules.{word_rules}
 use Rattle.icu_segmenter_uax29.specs.WordValues.{is_pictograph_of, word_break_of}
 use Rattle.icu_segmenter_uax29.specs.Words.{word_machine}
-use Rattle.icu_segmenter_uax29.proofs.Bases.{EndsBare, bases-are, joins_below, rows-are as rows-by-pairs}
+use Rattle.icu_segmenter_uax29.proofs.Bases.{all_agree, EndsBare, bases-are, joins_below, rows-are as rows-by-pairs}
 use Rattle.icu_segmenter_uax29.proofs.Boundaries.{EndsAre, HasEnds}
 use Rattle.icu_segmenter_uax29.proofs.Lists.{bool-cases, every}
 use Rattle.icu_segmenter_uax29.proofs.RowPlaces.{RowsAre, ends-follow}
 use Rattle.icu_segmenter_uax29.proofs.RuleLaws.{word-follows}
-use Rattle.icu_segmenter_uax29.proofs.Sides.{Flags, anywhere, flags-on, for-flags, for-text, for_flags, for_text, joined, left_by, next_in, right_by}
+use Rattle.icu_segmenter_uax29.proofs.Sides.{Flags, anywhere, flags-on, for-text, for_flags, for_text, joined, left_by, next_in, right_by}
 use Rattle.icu_segmenter_uax29.proofs.Tests.{implied, implies, not-true}
 use Rattle.icu_segmenter_uax29.proofs.WordCertificate.{numbered_above, numbered_below, numbered_rules, rules-are}
 use Rattle.icu_segmenter_uax29.proofs.WordSymbols.{symbol, symbol-says}
@@ -272,29 +271,13 @@ pairs-last class begins (x ∷ xs) = refl
 
 -- ---- the rows
 
-abbrev above_agrees : (s t : ℕ) → List Bool → Bool
-above_agrees s t (joins ∷ []) =
-    same (joined numbered_above (left_by (s ∷ [])) (right_by t []) (cond (has 224 t && not (has 28 s)) true joins)) (not (unwrap_or (pair s t) (not joins)))
-    && (is_some (pair s t) || (not (has 224 t) && not (has 28 t)))
-above_agrees s t _ = true
+-- where the rules on pairs say nothing, no end of a line comes
+abbrev free : ℕ → ℕ → Bool
+free s t = not (has 28 t)
 
-all_above : for_text 22 (λ s. for_text 22 (λ t. for_flags 1 (above_agrees s t))) ≡ true
-unfolding all_below for_flags joined numbered_above reached after_item after_one
-all_above = refl
-
-above : (c d : ℕ) (joins : Bool) → above_agrees (symbol c) (symbol d) (joins ∷ []) ≡ true
-above c d joins =
-    let one = symbol-says c in
-    let two = symbol-says d in
-    for-flags (above_agrees (symbol c) (symbol d)) (joins ∷ [])
-    (for-text 22 (λ t. for_flags 1 (above_agrees (symbol c) t)) (symbol d)
-    (for-text 22 (λ s. for_text 22 (λ t. for_flags 1 (above_agrees s t))) (symbol c) all_above one.some one.below) two.some two.below)
-
-unread : (c d : ℕ) → pair (symbol c) (symbol d) ≡ None → (has 224 (symbol d) ≡ false) × (has 28 (symbol d) ≡ false)
-unread c d none =
-    let found = ap (λ found. is_some found || (not (has 224 (symbol d)) && not (has 28 (symbol d)))) (sym none) ∙ (and_parts _ _ (above c d true)).1 in
-    let parts = and_parts (not (has 224 (symbol d))) _ found in
-    (not-true _ parts.0, not-true _ parts.1)
+pairs-agree : all_agree numbered_rules pair free 22 ≡ true
+unfolding all_below for_flags joined numbered_above numbered_rules reached after_item after_one
+pairs-agree = refl
 
 -- what the sides say of values
 abbrev left_side : (far left : WordBreak) → (ℕ → Bool) → Pattern → Bool
@@ -418,16 +401,15 @@ are_known : every (λ (row : Row). is_left row.left && is_right row.right) numbe
 unfolding numbered_below listed
 are_known = refl
 
-below : (c d : ℕ) (before after : List ℕ) → pair (symbol c) (symbol d) ≡ None
+below : (c d : ℕ) (before after : List ℕ) → has numbered_rules.marks (symbol d) ≡ false → free (symbol c) (symbol d) ≡ true
     → joins_below numbered_rules word_machine marked apart c d before after ≡ not (not (joins_after c d before after))
 unfolding numbered_rules
-below c d before after none =
-    let plain = unread c d none in
+below c d before after plain going =
     let past = c ∷ before in
     let flags = flags_in (bases_of past) in
-    (λ i. joined numbered_below (left_by (bases_of past)) (right_by (symbol d) (bases_after numbered_rules (not (plain.1 i)) (symbols_of word_machine after))) true)
+    (λ i. joined numbered_below (left_by (bases_of past)) (right_by (symbol d) (bases_after numbered_rules (going i) (symbols_of word_machine after))) true)
     ∙ joined-same numbered_below _ (left_side (second past) (first past) flags) _ (right_side (word_break d) (first after)) true are_known
-    (left-is past) (λ pattern. right-is d after pattern plain.0)
+    (left-is past) (λ pattern. right-is d after pattern plain)
     ∙ values-join (second past) (first past) (word_break d) (first after) flags
     ∙ either-half (joins (second past) (first past) (word_break d) (first after)) (flags 1) (flags 4194046) (is_regional (word_break d)) (half past) (flags-are past).odd
     ∙ sym (not_swap _ _ refl)
@@ -447,11 +429,8 @@ by-pairs c d before after =
 rows-are : RowsAre is_word_break numbered_rules word_machine
 unfolding numbered_rules
 rows-are =
-    rows-by-pairs numbered_rules word_machine marked apart is_word_break pair (λ c d before after. not (joins_after c d before after)) by-pairs
-    (λ c d before after joins.
-    above-sides (symbol c) (symbol d) before after (cond (has 224 (symbol d) && not (has 28 (symbol c))) true joins)
-    ∙ same-true _ _ (and_parts _ _ (above c d joins)).0)
-    (λ c d none. (unread c d none).0) below
+    rows-by-pairs numbered_rules word_machine marked apart is_word_break pair free 22 (λ c. ((symbol-says c).some, (symbol-says c).below))
+    pairs-agree above-sides (λ c d before after. not (joins_after c d before after)) by-pairs below
 
 pub rule-ends : HasEnds is_word_break
 unfolding is_word_break
