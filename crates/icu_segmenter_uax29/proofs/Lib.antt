@@ -4,7 +4,6 @@ pub mod Cells
 mod RangeSymbols
 mod Ends
 mod Boundaries
-mod Sides
 mod Texts
 mod Parts
 pub mod Segments
@@ -12,22 +11,23 @@ pub mod Faultless
 pub mod MachineTests
 pub mod Scripts
 mod Properties
-mod Sequences
 mod SentenceSymbols
 mod WordSymbols
-mod WordSequences
-mod SentenceSequences
 mod ClusterCertificate
-mod WordCertificate
 mod SentenceCertificate
+mod WordCertificate
+mod TypedStates
 mod Faults
 mod RuleLaws
+mod Sides
 mod RowPlaces
-mod ClusterPlaces
 mod Bases
+mod ClusterPlaces
 mod SentencePlaces
 mod WordPlaces
-mod TypedStates
+mod Sequences
+mod SentenceSequences
+mod WordSequences
 mod TypedSymbols
 mod TypedPicks
 mod TypedBoundaries
