@@ -3,7 +3,7 @@ use Rattle.std.proofs.Common.{◌≡◌, ◌≢◌, ℕ, zero, suc, ◌+◌, ◌
 use Rattle.std.proofs.lemmas.Bool.{and_parts, ltb-true}
 use Rattle.std.proofs.lemmas.Option.{slice_get_within, get_or_from_slice_get}
 use Rattle.seg_data.specs.declared.provider.DataError.{DataError}
-use Rattle.seg_data.specs.declared.provider.DataError.TheVariants.{Memory, RangeOrder, RangePast10FFFF, TableSize, ClassOutOfRange, StateOutOfRange, StartRowKeeps, ComplexItems, ComplexBelow0100, ComplexClassNamed, StateCount, TransitionSize, TransitionOutOfRange, SymbolOutOfRange, TooManyLookaheads, LookaheadOutOfRange, EndCycle, Stalls, MissingTailoring}
+use Rattle.seg_data.specs.declared.provider.DataError.TheVariants.{RangeOrder, RangePast10FFFF}
 use Rattle.seg_data.specs.Faults.{HasRangeFault, HasOverlap}
 use Rattle.icu_segmenter_uax29.proofs.Lists.{every, any-passes}
 use Rattle.icu_segmenter_uax29.proofs.Tests.{either}
@@ -57,23 +57,7 @@ no-range-fault ranges are rise RangeOrder (inr overlap) = no-overlap ranges rise
 no-range-fault ranges are rise RangePast10FFFF any =
     let (range, is, past) = any-passes is_range ranges are any in
     let high = ltb-true _ _ (and_parts (nat_lt range.0 (suc range.1)) (nat_lt range.1 0x110000) is).1 in omega arith
-no-range-fault ranges are rise Memory h = h
-no-range-fault ranges are rise TableSize h = h
-no-range-fault ranges are rise ClassOutOfRange h = h
-no-range-fault ranges are rise StateOutOfRange h = h
-no-range-fault ranges are rise StartRowKeeps h = h
-no-range-fault ranges are rise ComplexItems h = h
-no-range-fault ranges are rise ComplexBelow0100 h = h
-no-range-fault ranges are rise ComplexClassNamed h = h
-no-range-fault ranges are rise StateCount h = h
-no-range-fault ranges are rise TransitionSize h = h
-no-range-fault ranges are rise TransitionOutOfRange h = h
-no-range-fault ranges are rise SymbolOutOfRange h = h
-no-range-fault ranges are rise TooManyLookaheads h = h
-no-range-fault ranges are rise LookaheadOutOfRange h = h
-no-range-fault ranges are rise EndCycle h = h
-no-range-fault ranges are rise Stalls h = h
-no-range-fault ranges are rise MissingTailoring h = h
+no-range-fault ranges are rise _ h = h
 
 -- ---- the machine
 

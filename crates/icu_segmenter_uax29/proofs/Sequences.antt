@@ -5,7 +5,7 @@ use Rattle.std.proofs.lemmas.List.Elements.{All-head, All-tail}
 use Rattle.ucd_table.proofs.TrieCheck.{all_below, all_below-at}
 use Rattle.ucd_breaks.specs.GraphemeClusterBreak.{grapheme_cluster_break}
 use Rattle.ucd_breaks.specs.declared.GraphemeClusterBreak.{GraphemeClusterBreak}
-use Rattle.ucd_breaks.specs.declared.GraphemeClusterBreak.TheVariants.{Control, Cr, Extend, L, Lf, Lv, Lvt, Prepend, RegionalIndicator, SpacingMark, T, V, Other, Zwj}
+use Rattle.ucd_breaks.specs.declared.GraphemeClusterBreak.TheVariants.{Extend, RegionalIndicator, Other, Zwj}
 use Rattle.ucd_derived.specs.IndicConjunctBreak.{indic_conjunct_break}
 use Rattle.ucd_derived.specs.declared.IndicConjunctBreak.{IndicConjunctBreak}
 use Rattle.ucd_derived.specs.declared.IndicConjunctBreak.TheVariants as InCb
@@ -105,19 +105,7 @@ is_other _ = false
 
 other-from : (v : GraphemeClusterBreak) → is_other v ≡ true → v ≡ Other
 other-from Other h = refl
-other-from Control h = cc
-other-from Cr h = cc
-other-from Lf h = cc
-other-from Extend h = cc
-other-from Zwj h = cc
-other-from RegionalIndicator h = cc
-other-from Prepend h = cc
-other-from SpacingMark h = cc
-other-from L h = cc
-other-from V h = cc
-other-from T h = cc
-other-from Lv h = cc
-other-from Lvt h = cc
+other-from _ h = cc
 
 -- pictographs and consonants have no value of their own
 plain : all_below (λ s. cond (pict_of s || is_consonant (incb_of s)) (is_other (gcb_of s)) true) 20 ≡ true
