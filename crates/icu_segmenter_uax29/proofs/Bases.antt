@@ -24,7 +24,7 @@ pub not-bare : (bare mark : Bool) → (bare && mark) ≡ false → mark ≡ true
 not-bare false mark h is = refl
 not-bare true mark h is = clash is h
 
--- the rows above say of two symbols what a rule of pairs says, and where it says nothing, the second is no mark, and something is so of both
+-- The rows above say of two symbols what a rule of pairs says. Where it says nothing, the second is no mark, and both are free.
 abbrev pub agrees : RowRules → (pair : ℕ → ℕ → Option Bool) (free : ℕ → ℕ → Bool) (s t : ℕ) → List Bool → Bool
 agrees rules pair free s t (joins ∷ []) =
     same (joined rules.above (left_by (s ∷ [])) (right_by t []) (cond (has rules.marks t && not (has rules.bare s)) true joins)) (not (unwrap_or (pair s t) (not joins)))
@@ -54,7 +54,7 @@ module _ (rules : RowRules) (m : Machine) (marked : rules.has_marks ≡ true)
   ends-bare [] alone = tt
   ends-bare (c ∷ cs) alone = sym (not_swap _ _ (sym (sym (base-is c cs) ∙ alone)))
 
-  -- what is so of the start, and stays so with each code point, is so of all bases, and the code points
+  -- what is so of the start, and stays so with each code point, is so of all bases and their code points
   module _ (P : List ℕ → List ℕ → Type 0) (start : P (0 ∷ []) [])
       (passed : (c : ℕ) (bases cs : List ℕ) → has rules.marks (symbol_in m c) ≡ true → is_base rules (symbols_of m cs) ≡ true → P bases cs → P bases (c ∷ cs))
       (alone : (c : ℕ) (bases cs : List ℕ) → has rules.marks (symbol_in m c) ≡ true → EndsBare cs → P bases cs → P (rules.alone ∷ bases) (c ∷ cs))
@@ -93,7 +93,7 @@ module _ (rules : RowRules) (m : Machine) (marked : rules.has_marks ≡ true)
       (λ i. first_row rules.below bases (cond (plain i && base) (later (plain i) (marked i)) (cond (plain i) rules.alone t ∷ later (plain i) (marked i))) 0 == 0)
       ∙ joined-is rules.below bases t (bases_after rules (not (has rules.bare t)) (symbols_of m after)) 0
 
-  -- a rule of pairs of symbols, which are those of the rows above, and where that says nothing, of what the rows below read
+  -- a rule that reads pairs of symbols as the rows above do, and otherwise what the rows below read
   module _ (rule : Rule) (pair : ℕ → ℕ → Option Bool) (free : ℕ → ℕ → Bool) (count : ℕ)
       (inside : (c : ℕ) → (0 < symbol_in m c) × (symbol_in m c < count))
       (agree : all_agree rules pair free count ≡ true)

@@ -27,8 +27,8 @@ use Rattle.icu_segmenter_uax29.proofs.SentenceSymbols.{symbol, symbol-says}
 use Rattle.icu_segmenter_uax29.proofs.Sides.{anywhere, comes, for-flags, for-text, for_flags, for_text, joined, left_by, next_in, right_by}
 use Rattle.icu_segmenter_uax29.proofs.Tests.{implied, implies, not-true}
 
--- The classes are numbers, as in the certificate: 96 the marks, 28 ParaSep, 4096 ATerm, 12288 SATerm, 16384 Close, 128 Sp, 768 what is cased,
--- 256 Lower and 51426 what SB8 passes over.
+-- The classes are numbers, as in the certificate: 96 the marks, 28 ParaSep, 4096 ATerm, 12288 SATerm, 16384 Close, 128 Sp, 256 Lower,
+-- 768 Upper and Lower, 51426 what SB8 passes over.
 
 -- Of the values that SB5 keeps, whether the last is cased, ATerm after a cased one, and ATerm; whether the one before Close* is
 -- SATerm, and ATerm; and whether the one before Close* Sp* is.
@@ -126,8 +126,8 @@ known-same one other h =
     let p5 = and_parts _ _ p4.1 in
     λ i. (same-true one.0 other.0 p0.0 i, same-true one.1 other.1 p1.0 i, same-true one.2 other.2 p2.0 i, same-true one.3 other.3 p3.0 i, same-true one.4 other.4 p4.0 i, same-true one.5 other.5 p5.0 i, same-true one.6 other.6 p5.1 i)
 
--- a symbol that is no mark is found as the kit knows its value, and nothing is known after an end of a paragraph, nor found after one
--- that no row names
+-- A symbol that is no mark is found as the kit knows its value. Nothing is known after an end of a paragraph, nor found after a
+-- symbol that no row names.
 abbrev knows : ℕ → List Bool → Bool
 knows s (a ∷ (b ∷ (c ∷ (d ∷ (e ∷ (f ∷ (g ∷ []))))))) =
     let known : Known = (a, b, c, d, e, f, g) in

@@ -63,7 +63,7 @@ is_listed = listed tests
 abbrev test_of : ℕ → Test
 test_of = test_in tests
 
--- a symbol that is no mark is in the class where its value passes the test, and nothing that is bare, or that no row names, passes
+-- A symbol that is no mark is in the class where its value passes the test. What is bare, or named by no row, doesn't pass.
 abbrev is_test : ℕ → Test → ℕ → Bool
 is_test class test s =
     implies (not (has 224 s)) (same (has class s) (test (word_break_of s))) && implies (has 28 s || s == 1) (not (test (word_break_of s)))
