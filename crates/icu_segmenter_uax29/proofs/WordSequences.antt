@@ -13,7 +13,7 @@ use Rattle.icu_segmenter_uax29.specs.Neighbours.{IsWordJoined, WordsHoldTogether
 use Rattle.icu_segmenter_uax29.specs.Words.{word_machine}
 use Rattle.icu_segmenter_uax29.proofs.Boundaries.{boundaries-break}
 use Rattle.icu_segmenter_uax29.proofs.Lists.{every, passes}
-use Rattle.icu_segmenter_uax29.proofs.Tests.{clash, not-true}
+use Rattle.icu_segmenter_uax29.proofs.Tests.{is_kept, kept-from, clash, not-true}
 use Rattle.icu_segmenter_uax29.proofs.WordPlaces.{rule-ends, words-are}
 
 -- where the rules don't break there is no boundary
@@ -25,15 +25,6 @@ joined before after last next is has =
     is
 
 -- ---- by the rules on pairs
-
-abbrev is_kept : Option Bool → Bool
-is_kept (Some false) = true
-is_kept _ = false
-
-kept-from : (found : Option Bool) → is_kept found ≡ true → found ≡ Some false
-kept-from (Some false) h = refl
-kept-from (Some true) h = cc
-kept-from None h = cc
 
 -- a test of two values, whether the second is a pictograph or not
 abbrev either_way : (Bool → Bool) → Bool
