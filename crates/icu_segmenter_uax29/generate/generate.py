@@ -6,9 +6,8 @@ the machine of words with types and scripts (src/words/typed/data.rt), with what
 usage: generate.py FOLDER
 
 FOLDER is the one of Rattle's guides, which has the crates ucd_breaks, ucd_derived, ucd_emoji and ucd_script. Nothing that this program
-writes is trusted: that the ranges have the properties of the rows, and that the transitions are those of the rules, is
-proved where the crate is checked (proofs/Properties.antt and proofs/Tables.antt, of words and sentences proofs/WordSymbols.antt,
-WordTables.antt, SentenceSymbols.antt and SentenceTables.antt)."""
+writes is trusted: where the crate is checked it is proved that the ranges have the properties of the rows (proofs/Properties.antt,
+WordSymbols.antt and SentenceSymbols.antt), and by the certificates that each machine's boundaries are the places of the rules."""
 import os
 import sys
 

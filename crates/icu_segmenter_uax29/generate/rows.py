@@ -2,7 +2,7 @@
 import os
 import re
 
-WIDTH = 118
+WIDTH = 158
 PER_LINE = 14
 
 

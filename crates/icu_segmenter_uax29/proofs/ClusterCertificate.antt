@@ -126,21 +126,7 @@ moves = moves_0 []
 
 unfoldable pub owes_0 : List (ℕ) → List (ℕ)
 owes_0 rest =
-    3 ∷
-    3 ∷
-    4 ∷
-    1 ∷
-    5 ∷
-    6 ∷
-    7 ∷
-    8 ∷
-    9 ∷
-    10 ∷
-    3 ∷
-    11 ∷
-    5 ∷
-    12 ∷
-    13 ∷
+    3 ∷ 3 ∷ 4 ∷ 1 ∷ 5 ∷ 6 ∷ 7 ∷ 8 ∷ 9 ∷ 10 ∷ 3 ∷ 11 ∷ 5 ∷ 12 ∷ 13 ∷
     rest
 
 unfoldable pub owes : List (ℕ)
@@ -184,20 +170,8 @@ tables = record { befores = befores; moves = moves; owes = owes; dues = dues; re
 
 unfoldable pub accepts : List (ℕ × ℕ × Bool)
 accepts =
-    (0, 0, false) ∷
-    (1, 0, false) ∷
-    (1, 0, false) ∷
-    (1, 0, false) ∷
-    (1, 0, false) ∷
-    (1, 0, false) ∷
-    (1, 0, false) ∷
-    (1, 0, false) ∷
-    (1, 0, false) ∷
-    (1, 0, false) ∷
-    (1, 0, false) ∷
-    (1, 0, false) ∷
-    (1, 0, false) ∷
-    (1, 0, false) ∷
+    (0, 0, false) ∷ (1, 0, false) ∷ (1, 0, false) ∷ (1, 0, false) ∷ (1, 0, false) ∷ (1, 0, false) ∷ (1, 0, false) ∷
+    (1, 0, false) ∷ (1, 0, false) ∷ (1, 0, false) ∷ (1, 0, false) ∷ (1, 0, false) ∷ (1, 0, false) ∷ (1, 0, false) ∷
     []
 
 unfoldable pub nexts : List (List ℕ)
@@ -223,38 +197,16 @@ plan = record { accepts = accepts; nexts = nexts }
 
 unfoldable pub waits : List Bool
 waits =
-    false ∷
-    false ∷
-    false ∷
-    false ∷
-    false ∷
-    false ∷
-    false ∷
-    false ∷
-    false ∷
-    false ∷
-    false ∷
-    false ∷
-    false ∷
-    false ∷
+    false ∷ false ∷ false ∷ false ∷ false ∷ false ∷ false ∷ false ∷ false ∷ false ∷ false ∷ false ∷ false ∷ false ∷
     []
 
 unfoldable pub relation : List (List Configuration)
 relation =
     (at 0 1 0 false 0 0 0 ∷ at 0 3 0 false 0 0 0 ∷ at 1 3 0 false 0 0 0 ∷ at 2 4 0 false 0 0 0 ∷ at 3 1 0 false 0 0 0 ∷ at 4 5 0 false 0 0 0 ∷ at 5 6 0 false 0 0 0 ∷ at 6 7 0 false 0 0 0 ∷ at 7 8 0 false 0 0 0 ∷ at 8 9 0 false 0 0 0 ∷ at 9 10 0 false 0 0 0 ∷ at 10 3 0 false 0 0 0 ∷ at 11 11 0 false 0 0 0 ∷ at 12 5 0 false 0 0 0 ∷ at 13 12 0 false 0 0 0 ∷ at 14 13 0 false 0 0 0 ∷ []) ∷
-    (at 1 1 0 true 2 0 0 ∷ at 0 1 0 true 2 0 0 ∷ []) ∷
-    (at 2 1 0 true 2 0 0 ∷ []) ∷
-    (at 3 1 0 true 2 0 0 ∷ []) ∷
-    (at 4 1 0 true 2 0 0 ∷ []) ∷
-    (at 5 1 0 true 2 0 0 ∷ at 11 1 0 true 2 0 0 ∷ []) ∷
-    (at 6 1 0 true 2 0 0 ∷ []) ∷
-    (at 7 1 0 true 2 0 0 ∷ []) ∷
-    (at 8 1 0 true 2 0 0 ∷ []) ∷
-    (at 9 1 0 true 2 0 0 ∷ []) ∷
-    (at 10 1 0 true 2 0 0 ∷ []) ∷
-    (at 12 1 0 true 2 0 0 ∷ []) ∷
-    (at 13 1 0 true 2 0 0 ∷ []) ∷
-    (at 14 1 0 true 2 0 0 ∷ []) ∷
+    (at 1 1 0 true 2 0 0 ∷ at 0 1 0 true 2 0 0 ∷ []) ∷ (at 2 1 0 true 2 0 0 ∷ []) ∷ (at 3 1 0 true 2 0 0 ∷ []) ∷
+    (at 4 1 0 true 2 0 0 ∷ []) ∷ (at 5 1 0 true 2 0 0 ∷ at 11 1 0 true 2 0 0 ∷ []) ∷ (at 6 1 0 true 2 0 0 ∷ []) ∷
+    (at 7 1 0 true 2 0 0 ∷ []) ∷ (at 8 1 0 true 2 0 0 ∷ []) ∷ (at 9 1 0 true 2 0 0 ∷ []) ∷ (at 10 1 0 true 2 0 0 ∷ []) ∷
+    (at 12 1 0 true 2 0 0 ∷ []) ∷ (at 13 1 0 true 2 0 0 ∷ []) ∷ (at 14 1 0 true 2 0 0 ∷ []) ∷
     []
 
 pub rules-are : cluster_rules ≡ numbered_rules

@@ -8,13 +8,12 @@ use Rattle.std.proofs.lemmas.List.Elements.{All-head, All-tail}
 use Rattle.ucd_table.proofs.TrieCheck.{all_below, all_below-at}
 use Rattle.std.proofs.lemmas.Nat.{mul-le}
 use Rattle.seg_data.specs.declared.provider.DataError.{DataError}
-use Rattle.seg_data.specs.declared.provider.DataError.TheVariants.{Memory, RangeOrder, RangePast10FFFF, TableSize, ClassOutOfRange, StateOutOfRange, StartRowKeeps, ComplexItems, ComplexBelow0100, ComplexClassNamed, StateCount, TransitionSize, TransitionOutOfRange, SymbolOutOfRange, TooManyLookaheads, LookaheadOutOfRange, EndCycle, Stalls, MissingTailoring}
+use Rattle.seg_data.specs.declared.provider.DataError.TheVariants.{Memory, StateCount, TransitionSize, TransitionOutOfRange, SymbolOutOfRange, TooManyLookaheads, LookaheadOutOfRange, EndCycle, Stalls}
 use Rattle.seg_data.specs.declared.provider.ComplexScript.{ComplexScript}
 use Rattle.seg_data.specs.Faults.{HasRangeFault}
 use Rattle.seg_data.specs.Table.{named_values}
 use Rattle.seg_text.specs.declared.boundary.Boundary.{Boundary}
 use Rattle.seg_text.specs.Boundaries.{boundary}
-use Rattle.seg_machine.specs.declared.provider.Acceptance.{Acceptance}
 use Rattle.seg_machine.specs.declared.provider.Acceptance.TheVariants.{Continue, Accept, Conditional}
 use Rattle.seg_machine.specs.Machine.{IsSymbolOf, Machine, run, scan, state_after_ends, state_at, step, symbol_count}
 use Rattle.seg_machine.specs.MachineFaults.{HasMachineFault, HasTextSymbols, IsChecked, IsStray, NamesPast}
@@ -22,11 +21,9 @@ use Rattle.seg_machine.specs.Pick.{HasStall, acceptance_status, first_condition,
 use Rattle.seg_machine.proofs.Bare.{stall_free-from}
 use Rattle.icu_segmenter_uax29.proofs.Faultless.{is_next, is_range, is_symbol, next-state, no-range-fault, rises}
 use Rattle.icu_segmenter_uax29.proofs.Lists.{any-passes, bool-cases, every, every-at, none-from, option-cases}
+use Rattle.icu_segmenter_uax29.proofs.RangeSymbols.{Entry}
 use Rattle.icu_segmenter_uax29.proofs.Tests.{either, implied, implies, not-true}
 use Rattle.icu_segmenter_uax29.proofs.Cells.{cell-at, cells, column-of, row-of}
-
-abbrev Entry : Type 0
-Entry = Acceptance × Option ℕ
 
 -- a value is the symbol of a text, or means an entry of the map
 abbrev is_value : ℕ → ℕ → ℕ → ℕ → Bool
@@ -304,17 +301,7 @@ module _ (m : Machine) (count last : ℕ) (waits : List Bool) (is : IsSound m co
       let (state, passes, past) = any-passes (is_state m.num_lookaheads) m.states is.states_are any in no-name m.num_lookaheads state passes past
   no-machine-fault EndCycle (state, steps, below, back) = no-cycle m state steps (ends-at state below) back
   no-machine-fault Stalls stall = no-stall stall
-  no-machine-fault Memory h = h
-  no-machine-fault RangeOrder h = h
-  no-machine-fault RangePast10FFFF h = h
-  no-machine-fault TableSize h = h
-  no-machine-fault ClassOutOfRange h = h
-  no-machine-fault StateOutOfRange h = h
-  no-machine-fault StartRowKeeps h = h
-  no-machine-fault ComplexItems h = h
-  no-machine-fault ComplexBelow0100 h = h
-  no-machine-fault ComplexClassNamed h = h
-  no-machine-fault MissingTailoring h = h
+  no-machine-fault _ h = h
 
   memory-from : (fault : DataError) → (fault ≡ Memory) ⊎ HasRangeFault m.symbols.ranges fault ⊎ HasMachineFault m fault → fault ≡ Memory
   memory-from fault (inl memory) = memory

@@ -1,13 +1,17 @@
 -- The symbol of a code point is the value of its range.
-use Rattle.std.proofs.Common.{◌≡◌, ℕ, ◌<◌, Bool, cond, nat_lt, List, [], ◌∷◌, find, Some, refl, sym, ap, ◌∙◌, lt-ltb}
+use Rattle.std.proofs.Common.{◌≡◌, ℕ, ◌<◌, Bool, cond, nat_lt, List, [], ◌∷◌, find, Option, Some, refl, sym, ap, ◌∙◌, lt-ltb}
 use Rattle.std.specs.Option.{option_map_or}
 use Rattle.std.proofs.lemmas.Bool.{cond_both, cond-true, cond-false}
 use Rattle.ucd_table.specs.Rows.{value_in}
 use Rattle.seg_data.specs.declared.provider.ComplexScript.{ComplexScript}
 use Rattle.seg_data.specs.declared.provider.ComplexScript.TheVariants.{None as NoScript}
 use Rattle.seg_data.specs.Table.{holds, table, value_of}
+use Rattle.seg_machine.specs.declared.provider.Acceptance.{Acceptance}
 use Rattle.seg_machine.specs.Machine.{Machine, machine, replaced, symbol_and_script}
-use Rattle.icu_segmenter_uax29.proofs.Entries.{Entry}
+
+-- a state: what it accepts, and the lookahead that it names
+abbrev pub Entry : Type 0
+Entry = Acceptance × Option ℕ
 
 abbrev pub symbol_in : Machine → ℕ → ℕ
 symbol_in m c = (symbol_and_script m c).0

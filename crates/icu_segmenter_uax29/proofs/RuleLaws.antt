@@ -1,22 +1,23 @@
 -- The machines of clusters, words and sentences pass the tests of the law of rules, and are checked.
-use Rattle.std.proofs.Common.{◌≡◌, true, refl, sym, subst, arith}
-use Rattle.ucd_table.proofs.TrieCheck.{all_below}
-use Rattle.seg_machine.specs.Machine.{state_at, step, symbol_count}
+use Rattle.std.proofs.Common.{◌≡◌, true, refl, sym, subst}
+use Rattle.seg_machine.specs.Machine.{symbol_count}
 use Rattle.seg_machine.specs.MachineFaults.{HasTextSymbols, IsChecked}
 use Rattle.seg_rules.specs.RowRules.{once_number}
 use Rattle.seg_rules.specs.Check.{get, scans_hold, tables_hold}
 use Rattle.seg_rules.specs.Places.{Passes, plan_holds, states_hold, column, columns, same_numbers, nexts_below, all_nexts_below}
+use Rattle.seg_rules.proofs.Law.{checked-law}
 use Rattle.icu_segmenter_uax29.specs.Clusters.{cluster_machine}
+use Rattle.icu_segmenter_uax29.specs.Following.{FollowsRules}
 use Rattle.icu_segmenter_uax29.specs.Words.{word_machine}
 use Rattle.icu_segmenter_uax29.specs.Sentences.{sentence_machine}
 use Rattle.icu_segmenter_uax29.specs.ClusterRules.{cluster_rules}
 use Rattle.icu_segmenter_uax29.specs.WordRules.{word_rules}
 use Rattle.icu_segmenter_uax29.specs.SentenceRules.{sentence_rules}
-use Rattle.icu_segmenter_uax29.proofs.Cells.{cells}
 use Rattle.icu_segmenter_uax29.proofs.ClusterCertificate.{accepts as cluster_accepts, nexts as cluster_nexts, plan as cluster_plan, relation as cluster_relation, rules-are as cluster-rules-are, scans-hold as cluster-scans-hold, tables as cluster_tables, tables-hold as cluster-tables-hold, waits as cluster_waits}
 use Rattle.icu_segmenter_uax29.proofs.WordCertificate.{accepts as word_accepts, nexts as word_nexts, plan as word_plan, relation as word_relation, rules-are as word-rules-are, scans-hold as word-scans-hold, tables as word_tables, tables-hold as word-tables-hold, waits as word_waits}
 use Rattle.icu_segmenter_uax29.proofs.SentenceCertificate.{accepts as sentence_accepts, nexts as sentence_nexts, plan as sentence_plan, relation as sentence_relation, rules-are as sentence-rules-are, scans-hold as sentence-scans-hold, tables as sentence_tables, tables-hold as sentence-tables-hold, waits as sentence_waits}
-use Rattle.icu_segmenter_uax29.proofs.MachineTests.{IsSound, is-checked}
+use Rattle.icu_segmenter_uax29.proofs.MachineTests.{is-checked}
+use Rattle.icu_segmenter_uax29.proofs.Faults.{cluster-is-sound, sentence-is-sound, word-is-sound}
 use Rattle.icu_segmenter_uax29.proofs.Properties.{symbol-says as cluster-says}
 use Rattle.icu_segmenter_uax29.proofs.WordSymbols.{symbol-says as word-says}
 use Rattle.icu_segmenter_uax29.proofs.SentenceSymbols.{symbol-says as sentence-says}
@@ -34,34 +35,15 @@ cluster-passes = record {
   machine = cluster-plan-holds;
 }
 
-cluster-is-sound : IsSound cluster_machine 14 19 cluster_waits
-unfolding cluster_machine all_below state_at step symbol_count cells cluster_waits
-cluster-is-sound =
-    record {
-      ranges_are = refl;
-      ranges_rise = refl;
-      values_are = refl;
-      entries_are = refl;
-      nothing_replaced = refl;
-      nexts_are = refl;
-      states_are = refl;
-      state_count = refl;
-      some_states = omega arith;
-      few_states = omega arith;
-      size = refl;
-      few_symbols = omega arith;
-      symbols_are = refl;
-      few_lookaheads = omega arith;
-      goes = refl;
-      ends_are = refl;
-    }
-
 cluster-text-symbols : HasTextSymbols cluster_machine
 unfolding cluster_machine symbol_count
 cluster-text-symbols c = ((cluster-says c).some, (cluster-says c).below)
 
 pub cluster-is-checked : IsChecked cluster_machine
 cluster-is-checked = is-checked cluster_machine 14 19 cluster_waits cluster-is-sound cluster-text-symbols
+
+pub cluster-follows : FollowsRules cluster_rules cluster_machine
+cluster-follows = checked-law cluster_rules 19 cluster_tables cluster_plan cluster_relation cluster_machine cluster-passes cluster-is-checked
 
 -- ---- words
 
@@ -76,34 +58,15 @@ word-passes = record {
   machine = word-plan-holds;
 }
 
-word-is-sound : IsSound word_machine 23 21 word_waits
-unfolding word_machine all_below state_at step symbol_count cells word_waits
-word-is-sound =
-    record {
-      ranges_are = refl;
-      ranges_rise = refl;
-      values_are = refl;
-      entries_are = refl;
-      nothing_replaced = refl;
-      nexts_are = refl;
-      states_are = refl;
-      state_count = refl;
-      some_states = omega arith;
-      few_states = omega arith;
-      size = refl;
-      few_symbols = omega arith;
-      symbols_are = refl;
-      few_lookaheads = omega arith;
-      goes = refl;
-      ends_are = refl;
-    }
-
 word-text-symbols : HasTextSymbols word_machine
 unfolding word_machine symbol_count
 word-text-symbols c = ((word-says c).some, (word-says c).below)
 
 pub word-is-checked : IsChecked word_machine
 word-is-checked = is-checked word_machine 23 21 word_waits word-is-sound word-text-symbols
+
+pub word-follows : FollowsRules word_rules word_machine
+word-follows = checked-law word_rules 21 word_tables word_plan word_relation word_machine word-passes word-is-checked
 
 -- ---- sentences
 
@@ -118,31 +81,13 @@ sentence-passes = record {
   machine = sentence-plan-holds;
 }
 
-sentence-is-sound : IsSound sentence_machine 12 15 sentence_waits
-unfolding sentence_machine all_below state_at step symbol_count cells sentence_waits
-sentence-is-sound =
-    record {
-      ranges_are = refl;
-      ranges_rise = refl;
-      values_are = refl;
-      entries_are = refl;
-      nothing_replaced = refl;
-      nexts_are = refl;
-      states_are = refl;
-      state_count = refl;
-      some_states = omega arith;
-      few_states = omega arith;
-      size = refl;
-      few_symbols = omega arith;
-      symbols_are = refl;
-      few_lookaheads = omega arith;
-      goes = refl;
-      ends_are = refl;
-    }
-
 sentence-text-symbols : HasTextSymbols sentence_machine
 unfolding sentence_machine symbol_count
 sentence-text-symbols c = ((sentence-says c).some, (sentence-says c).below)
 
 pub sentence-is-checked : IsChecked sentence_machine
 sentence-is-checked = is-checked sentence_machine 12 15 sentence_waits sentence-is-sound sentence-text-symbols
+
+pub sentence-follows : FollowsRules sentence_rules sentence_machine
+sentence-follows =
+    checked-law sentence_rules 15 sentence_tables sentence_plan sentence_relation sentence_machine sentence-passes sentence-is-checked

@@ -127,19 +127,7 @@ moves = moves_0 []
 
 unfoldable pub owes_0 : List (ℕ) → List (ℕ)
 owes_0 rest =
-    0 ∷
-    0 ∷
-    3 ∷
-    1 ∷
-    0 ∷
-    4 ∷
-    5 ∷
-    6 ∷
-    3 ∷
-    1 ∷
-    7 ∷
-    8 ∷
-    9 ∷
+    0 ∷ 0 ∷ 3 ∷ 1 ∷ 0 ∷ 4 ∷ 5 ∷ 6 ∷ 3 ∷ 1 ∷ 7 ∷ 8 ∷ 9 ∷
     rest
 
 unfoldable pub owes : List (ℕ)
@@ -177,18 +165,8 @@ tables = record { befores = befores; moves = moves; owes = owes; dues = dues; re
 
 unfoldable pub accepts : List (ℕ × ℕ × Bool)
 accepts =
-    (0, 0, false) ∷
-    (1, 0, false) ∷
-    (1, 0, false) ∷
-    (1, 0, false) ∷
-    (1, 0, false) ∷
-    (1, 0, false) ∷
-    (1, 0, false) ∷
-    (1, 0, false) ∷
-    (1, 0, false) ∷
-    (1, 0, false) ∷
-    (1, 0, false) ∷
-    (0, 0, false) ∷
+    (0, 0, false) ∷ (1, 0, false) ∷ (1, 0, false) ∷ (1, 0, false) ∷ (1, 0, false) ∷ (1, 0, false) ∷ (1, 0, false) ∷
+    (1, 0, false) ∷ (1, 0, false) ∷ (1, 0, false) ∷ (1, 0, false) ∷ (0, 0, false) ∷
     []
 
 unfoldable pub nexts : List (List ℕ)
@@ -212,34 +190,16 @@ plan = record { accepts = accepts; nexts = nexts }
 
 unfoldable pub waits : List Bool
 waits =
-    false ∷
-    false ∷
-    false ∷
-    false ∷
-    false ∷
-    false ∷
-    false ∷
-    false ∷
-    false ∷
-    false ∷
-    false ∷
-    false ∷
+    false ∷ false ∷ false ∷ false ∷ false ∷ false ∷ false ∷ false ∷ false ∷ false ∷ false ∷ false ∷
     []
 
 unfoldable pub relation : List (List Configuration)
 relation =
     (at 0 1 0 false 0 0 0 ∷ at 2 3 0 false 0 0 0 ∷ at 3 1 0 false 0 0 0 ∷ at 5 4 0 false 0 0 0 ∷ at 6 5 0 false 0 0 0 ∷ at 7 6 0 false 0 0 0 ∷ at 8 3 0 false 0 0 0 ∷ at 9 1 0 false 0 0 0 ∷ at 10 7 0 false 0 0 0 ∷ at 11 8 0 false 0 0 0 ∷ at 12 9 0 false 0 0 0 ∷ []) ∷
-    (at 1 1 0 false 2 0 0 ∷ at 1 10 0 false 2 0 0 ∷ []) ∷
-    (at 2 1 0 true 2 0 0 ∷ at 8 1 0 true 2 0 0 ∷ []) ∷
-    (at 3 1 0 true 2 0 0 ∷ at 9 1 0 true 2 0 0 ∷ []) ∷
-    (at 4 1 0 false 2 0 0 ∷ []) ∷
-    (at 6 1 0 true 2 0 0 ∷ []) ∷
-    (at 12 1 0 true 2 0 0 ∷ []) ∷
-    (at 5 1 0 true 2 0 0 ∷ []) ∷
-    (at 7 1 0 true 2 0 0 ∷ []) ∷
-    (at 11 1 0 true 2 0 0 ∷ []) ∷
-    (at 10 1 0 true 2 0 0 ∷ []) ∷
-    (at 1 1 10 false 3 0 0 ∷ []) ∷
+    (at 1 1 0 false 2 0 0 ∷ at 1 10 0 false 2 0 0 ∷ []) ∷ (at 2 1 0 true 2 0 0 ∷ at 8 1 0 true 2 0 0 ∷ []) ∷
+    (at 3 1 0 true 2 0 0 ∷ at 9 1 0 true 2 0 0 ∷ []) ∷ (at 4 1 0 false 2 0 0 ∷ []) ∷ (at 6 1 0 true 2 0 0 ∷ []) ∷
+    (at 12 1 0 true 2 0 0 ∷ []) ∷ (at 5 1 0 true 2 0 0 ∷ []) ∷ (at 7 1 0 true 2 0 0 ∷ []) ∷ (at 11 1 0 true 2 0 0 ∷ []) ∷
+    (at 10 1 0 true 2 0 0 ∷ []) ∷ (at 1 1 10 false 3 0 0 ∷ []) ∷
     []
 
 pub rules-are : sentence_rules ≡ numbered_rules

@@ -9,7 +9,7 @@ use Rattle.unicode_segmentation.specs.Sentence.{before_close_sp, break_by_pair, 
 use Rattle.icu_segmenter_uax29.specs.Neighbours.{IsSentenceBoundary, IsSentenceJoined}
 use Rattle.icu_segmenter_uax29.specs.Sentences.{sentence_machine}
 use Rattle.icu_segmenter_uax29.proofs.Boundaries.{boundaries-break, breaks-bound}
-use Rattle.icu_segmenter_uax29.proofs.SentenceWalks.{rule-ends, sentences-are}
+use Rattle.icu_segmenter_uax29.proofs.SentencePlaces.{rule-ends, sentences-are}
 use Rattle.icu_segmenter_uax29.proofs.Tests.{clash}
 
 turned : (before after : List ℕ) (last : ℕ) → is_sentence_break (reverse (before ++ last ∷ [])) after ≡ is_sentence_break (last ∷ reverse before) after

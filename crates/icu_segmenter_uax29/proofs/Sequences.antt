@@ -5,7 +5,7 @@ use Rattle.std.proofs.lemmas.List.Elements.{All-head, All-tail}
 use Rattle.ucd_table.proofs.TrieCheck.{all_below, all_below-at}
 use Rattle.ucd_breaks.specs.GraphemeClusterBreak.{grapheme_cluster_break}
 use Rattle.ucd_breaks.specs.declared.GraphemeClusterBreak.{GraphemeClusterBreak}
-use Rattle.ucd_breaks.specs.declared.GraphemeClusterBreak.TheVariants.{Control, Cr, Extend, L, Lf, Lv, Lvt, Prepend, RegionalIndicator, SpacingMark, T, V, Other, Zwj}
+use Rattle.ucd_breaks.specs.declared.GraphemeClusterBreak.TheVariants.{Extend, RegionalIndicator, Other, Zwj}
 use Rattle.ucd_derived.specs.IndicConjunctBreak.{indic_conjunct_break}
 use Rattle.ucd_derived.specs.declared.IndicConjunctBreak.{IndicConjunctBreak}
 use Rattle.ucd_derived.specs.declared.IndicConjunctBreak.TheVariants as InCb
@@ -17,13 +17,10 @@ use Rattle.icu_segmenter_uax29.specs.Clusters.{cluster_machine}
 use Rattle.icu_segmenter_uax29.specs.Neighbours.{IsBoundary, IsJoined, StayTogether, EndsInWholeFlags, AllExtend, AllInConjunct}
 use Rattle.icu_segmenter_uax29.specs.Properties.{gcb_of, incb_of, pict_of}
 use Rattle.icu_segmenter_uax29.proofs.Boundaries.{boundaries-break}
-use Rattle.icu_segmenter_uax29.proofs.Clusters.{rule-ends, clusters-are}
+use Rattle.icu_segmenter_uax29.proofs.ClusterPlaces.{rule-ends, clusters-are}
 use Rattle.icu_segmenter_uax29.proofs.Lists.{every, passes}
 use Rattle.icu_segmenter_uax29.proofs.Properties.{symbol, symbol-says}
-use Rattle.icu_segmenter_uax29.proofs.Tests.{implied, or-true}
-
-not-both : {b : Bool} → b ≡ false → b ≡ true → ⊥
-not-both is other = let clash : true ≡ false = sym other ∙ is in cc
+use Rattle.icu_segmenter_uax29.proofs.Tests.{clash, is_kept, kept-from, implied, or-true}
 
 -- where there is a boundary the rules break
 ruled : (before after : List ℕ) → IsBoundary before after → is_grapheme_break true (reverse before) after ≡ true
@@ -32,18 +29,9 @@ ruled = boundaries-break (is_grapheme_break true) cluster_machine rule-ends clus
 -- where the rules don't break there is no boundary
 joined : (before after : List ℕ) (last next : ℕ) → is_grapheme_break true (last ∷ reverse before) (next ∷ after) ≡ false → IsJoined (before ++ last ∷ []) (next ∷ after)
 joined before after last next is has =
-    not-both is (ap (λ past. is_grapheme_break true past (next ∷ after)) (sym (reverse-append before (last ∷ []))) ∙ ruled (before ++ last ∷ []) (next ∷ after) has)
+    clash (ap (λ past. is_grapheme_break true past (next ∷ after)) (sym (reverse-append before (last ∷ []))) ∙ ruled (before ++ last ∷ []) (next ∷ after) has) is
 
 -- ---- pairs
-
-abbrev pub is_kept : Option Bool → Bool
-is_kept (Some false) = true
-is_kept _ = false
-
-kept-from : (found : Option Bool) → is_kept found ≡ true → found ≡ Some false
-kept-from (Some false) h = refl
-kept-from (Some true) h = cc
-kept-from None h = cc
 
 abbrev pub are_kept : List GraphemeClusterBreak → List GraphemeClusterBreak → Bool
 are_kept lasts nexts = every (λ last. every (λ next. is_kept (break_by_pair true last next)) nexts) lasts
@@ -105,19 +93,7 @@ is_other _ = false
 
 other-from : (v : GraphemeClusterBreak) → is_other v ≡ true → v ≡ Other
 other-from Other h = refl
-other-from Control h = cc
-other-from Cr h = cc
-other-from Lf h = cc
-other-from Extend h = cc
-other-from Zwj h = cc
-other-from RegionalIndicator h = cc
-other-from Prepend h = cc
-other-from SpacingMark h = cc
-other-from L h = cc
-other-from V h = cc
-other-from T h = cc
-other-from Lv h = cc
-other-from Lvt h = cc
+other-from _ h = cc
 
 -- pictographs and consonants have no value of their own
 plain : all_below (λ s. cond (pict_of s || is_consonant (incb_of s)) (is_other (gcb_of s)) true) 20 ≡ true
@@ -224,7 +200,6 @@ pub conjunct-joined : (before marks after : List ℕ) (linker next : ℕ) → in
     → indic_conjunct_break next ≡ InCb.Consonant → IsJoined (before ++ linker ∷ marks) (next ∷ after)
 unfolding ends_in_linker
 conjunct-joined before marks after linker next is_linker all is has =
-    not-both
+    clash (ruled (before ++ linker ∷ marks) (next ∷ after) has)
     (ap (λ past. is_grapheme_break true past (next ∷ after)) (reverse-append before (linker ∷ marks) ∙ turned linker marks (reverse before))
     ∙ walk marks after (reverse before) linker next (ap is_within is_linker) (ap (λ v. ends_in_linker (v ∷ map indic_conjunct_break (reverse before))) is_linker) all is)
-    (ruled (before ++ linker ∷ marks) (next ∷ after) has)

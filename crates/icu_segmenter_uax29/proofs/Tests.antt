@@ -1,5 +1,5 @@
 -- Boolean tests, and what follows from them.
-use Rattle.std.proofs.Common.{◌≡◌, ◌⊎◌, Bool, true, false, cond, not, ◌&&◌, ◌||◌, refl, sym, ap, ◌∙◌, inl, inr}
+use Rattle.std.proofs.Common.{◌≡◌, ◌⊎◌, Bool, true, false, cond, not, ◌&&◌, ◌||◌, Option, Some, refl, sym, ap, ◌∙◌, inl, inr}
 
 abbrev pub implies : Bool → Bool → Bool
 implies b c = cond b c true
@@ -29,3 +29,12 @@ or-true false = refl
 
 pub clash : {X : Type 0} {b : Bool} → b ≡ true → b ≡ false → X
 clash is other = let no : true ≡ false = sym is ∙ other in cc
+
+-- a rule on pairs joins
+abbrev pub is_kept : Option Bool → Bool
+is_kept (Some false) = true
+is_kept _ = false
+
+pub kept-from : (found : Option Bool) → is_kept found ≡ true → found ≡ Some false
+kept-from (Some false) h = refl
+kept-from _ h = cc

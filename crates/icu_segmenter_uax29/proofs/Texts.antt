@@ -79,7 +79,7 @@ concat-prepend : (part : List ℕ) (pieces : List (List ℕ)) → concat (prepen
 concat-prepend part [] = refl
 concat-prepend part (piece ∷ pieces) = append_assoc part piece (concat pieces)
 
-concat-cut : (rule : Rule) (before cs after : List ℕ) → concat (cut rule before cs after) ≡ cs
+pub concat-cut : (rule : Rule) (before cs after : List ℕ) → concat (cut rule before cs after) ≡ cs
 unfolding cut
 concat-cut rule before [] after = refl
 concat-cut rule before (c ∷ cs) after =

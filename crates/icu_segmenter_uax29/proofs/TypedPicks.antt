@@ -1,27 +1,23 @@
--- The pick of the machine of typed words is that of the machine of words, with the type of the word.
-use Rattle.std.proofs.Common.{◌≡◌, ℕ, zero, suc, ◌<◌, min, Bool, true, false, not, ◌&&◌, ◌==◌, nat_lt, List, [], ◌∷◌, ◌++◌, map, length, get_or, replicate, take, Option, Some, None, refl, sym, ap, ap₂, ◌∙◌, arith, inl, inr, eqb-true}
+-- The stretches of the machine of typed words are those of the machine of words, with the types of the words.
+use Rattle.std.proofs.Common.{◌≡◌, ℕ, zero, suc, ◌<◌, ◌⊎◌, min, Bool, true, false, not, ◌&&◌, ◌==◌, nat_lt, List, [], ◌∷◌, ◌++◌, map, length, get_or, replicate, take, Option, Some, None, refl, sym, ap, ap₂, subst₂, ◌∙◌, arith, inl, inr, eqb-true}
 use Rattle.std.specs.Option.{is_some, option_map, option_or, option_map_or}
 use Rattle.std.proofs.lemmas.Bool.{and_parts, ltb-true}
-use Rattle.std.proofs.lemmas.List.{length-map}
+use Rattle.std.proofs.lemmas.List.{length-map, take_min}
 use Rattle.ucd_table.proofs.TrieCheck.{all_below, all_below-at}
 use Rattle.seg_machine.specs.declared.provider.Acceptance.TheVariants.{Continue, Accept, Conditional}
 use Rattle.seg_text.specs.declared.boundary.Boundary.{Boundary}
 use Rattle.seg_text.specs.Boundaries.{boundary, Stretch}
-use Rattle.seg_machine.specs.Machine.{run, scan, state_at, step}
-use Rattle.seg_machine.specs.Pick.{later, last_step, acceptance_status, condition, first_condition, picked_step, pick, machine_stretch}
+use Rattle.seg_machine.specs.Machine.{Machine, run, scan, state_at, step, symbols_of}
+use Rattle.seg_machine.specs.Pick.{later, last_step, acceptance_status, condition, first_condition, pick, machine_stretch}
 use Rattle.icu_segmenter_uax29.specs.TypedWords.{typed_word_machine}
 use Rattle.icu_segmenter_uax29.specs.Words.{word_machine}
 use Rattle.icu_segmenter_uax29.specs.WordTypes.{changed, plain_symbol, type_after, type_from, unruled_symbol, word_type}
 use Rattle.icu_segmenter_uax29.specs.WordValues.{word_break_of}
-use Rattle.icu_segmenter_uax29.proofs.Entries.{Entry, accepts}
 use Rattle.icu_segmenter_uax29.proofs.Lists.{every, every-at, none-from, option-cases}
-use Rattle.icu_segmenter_uax29.proofs.Picks.{entered, entered-none, entered-some, grown, reach, reach-end, reach-none, reach-some, reach-within, run-end}
-use Rattle.icu_segmenter_uax29.proofs.RangeSymbols.{symbol_in}
-use Rattle.icu_segmenter_uax29.proofs.Tests.{not-true}
+use Rattle.icu_segmenter_uax29.proofs.RangeSymbols.{Entry, symbol_in}
 use Rattle.icu_segmenter_uax29.proofs.TypedStates.{plain_states, types}
 use Rattle.icu_segmenter_uax29.proofs.TypedSymbols.{typed-says}
 use Rattle.icu_segmenter_uax29.proofs.WordSymbols.{symbol as plain_symbol_of}
-use Rattle.icu_segmenter_uax29.proofs.WordWalks.{word-plain}
 
 -- what a state knows: which state of the machine of words it is, and the type of the word that was read
 abbrev under : ℕ → ℕ
@@ -47,17 +43,23 @@ all-lead : all_below (λ q. all_below (leads q) 23) 29 ≡ true
 unfolding all_below step typed_word_machine word_machine plain_states types
 all-lead = refl
 
--- both accept or neither does, with the type as status
+abbrev accepts : Entry → Bool
+accepts (Accept status, name) = true
+accepts _ = false
+
+-- both accept or neither does, with the type as status, and the end of the text leads neither on
 abbrev alike : Entry → Entry → ℕ → Bool
 alike (Continue, None) plain type = not (accepts plain)
 alike (Accept status, None) plain type = accepts plain && status == type
 alike _ plain type = false
 
 abbrev stands : ℕ → Bool
-stands q = alike (state_at typed_word_machine q) (state_at word_machine (under q)) (type_of q) && nat_lt (under q) 23
+stands q =
+    alike (state_at typed_word_machine q) (state_at word_machine (under q)) (type_of q)
+    && (not (is_some (step typed_word_machine q 0)) && not (is_some (step word_machine (under q) 0)))
 
 all-stand : all_below stands 29 ≡ true
-unfolding all_below state_at typed_word_machine word_machine plain_states types
+unfolding all_below state_at step typed_word_machine word_machine plain_states types
 all-stand = refl
 
 abbrev is_simple : Entry → Bool
@@ -65,8 +67,8 @@ is_simple (Continue, None) = true
 is_simple (Accept status, None) = true
 is_simple _ = false
 
-all-simple : every is_simple typed_word_machine.states ≡ true
-unfolding typed_word_machine
+all-simple : every is_simple typed_word_machine.states && every is_simple word_machine.states ≡ true
+unfolding typed_word_machine word_machine
 all-simple = refl
 
 -- ---- steps
@@ -121,82 +123,78 @@ goes q c t below leading =
       types_on = next.types_on ∙ (λ i. changed (sym says.typed.plain.value i) (sym says.typed.unruled i) (type_of q));
     }
 
-abbrev is_last : ℕ → Bool
-is_last q = not (is_some (step typed_word_machine q 0))
-
-all-last : all_below is_last 29 ≡ true
-unfolding all_below step typed_word_machine
-all-last = refl
-
-ends : (q : ℕ) → q < 29 → step typed_word_machine q 0 ≡ None
-ends q below = none-from _ (all_below-at is_last 29 q all-last below)
-
 -- ---- the last acceptance
 
-abbrev found_in : ℕ → List ℕ → ℕ → Option Boundary
-found_in type cs zero = None
-found_in type cs (suc n) = Some (boundary (suc n) (type_from type (take (suc n) cs)))
+-- what is entered from a state on, by some code points and then the end, as often as there are states
+abbrev entered : Machine → ℕ → List ℕ → List Entry
+entered m q cs = map (state_at m) (run m q (symbols_of m cs ++ replicate (length m.states) 0))
 
-grown-suc : (b : Bool) (n : ℕ) → grown b (suc n) ≡ suc (suc n)
-grown-suc true n = refl
-grown-suc false n = refl
+entered-end : (m : Machine) (q many : ℕ) → step m q 0 ≡ None → map (state_at m) (run m q (replicate many 0)) ≡ []
+unfolding run
+entered-end m q zero none = refl
+entered-end m q (suc many) none = ap (λ next. map (state_at m) (option_map_or (λ t. t ∷ run m t (replicate many 0)) next [])) none
+
+entered-by : (m : Machine) (q c : ℕ) (cs : List ℕ) (next : Option ℕ) → step m q (symbol_in m c) ≡ next
+    → entered m q (c ∷ cs) ≡ option_map_or (λ t. state_at m t ∷ entered m t cs) next []
+unfolding run
+entered-by m q c cs None leads =
+    ap (λ next. map (state_at m) (option_map_or (λ t. t ∷ run m t (symbols_of m cs ++ replicate (length m.states) 0)) next [])) leads
+entered-by m q c cs (Some t) leads =
+    ap (λ next. map (state_at m) (option_map_or (λ t. t ∷ run m t (symbols_of m cs ++ replicate (length m.states) 0)) next [])) leads
+
+-- a boundary with the type of what stands before it
+abbrev with_type : ℕ → List ℕ → Option Boundary → Option Boundary
+with_type type cs found = option_map (λ (b : Boundary). boundary b.offset (type_from type (take b.offset cs))) found
 
 -- with one more entry before
-found-grown : (entry plain : Entry) (type c : ℕ) (cs : List ℕ) (n : ℕ) → alike entry plain (type_after type c) ≡ true
-    → option_or (later (found_in (type_after type c) cs n)) (option_map (λ v. boundary 1 v) (acceptance_status entry))
-    ≡ found_in type (c ∷ cs) (grown (accepts plain) n)
+one-more : (entry plain : Entry) (type c : ℕ) (cs : List ℕ) (found : Option Boundary) → alike entry plain (type_after type c) ≡ true
+    → option_or (later (with_type (type_after type c) cs found)) (option_map (λ v. boundary 1 v) (acceptance_status entry))
+    ≡ with_type type (c ∷ cs) (option_or (later found) (option_map (λ v. boundary 1 v) (acceptance_status plain)))
 unfolding type_from
-found-grown (Continue, None) plain type c cs zero is = ap (λ b. found_in type (c ∷ cs) (grown b 0)) (sym (not-true (accepts plain) is))
-found-grown (Continue, None) plain type c cs (suc n) is = ap (found_in type (c ∷ cs)) (sym (grown-suc (accepts plain) n))
-found-grown (Accept status, None) plain type c cs zero is =
-    let parts = and_parts (accepts plain) (status == type_after type c) is in
-    ap (λ s. Some (boundary 1 s)) (eqb-true status (type_after type c) parts.1)
-    ∙ ap (λ b. found_in type (c ∷ cs) (grown b 0)) (sym parts.0)
-found-grown (Accept status, None) plain type c cs (suc n) is = ap (found_in type (c ∷ cs)) (sym (grown-suc (accepts plain) n))
-found-grown (Continue, Some name) plain type c cs n is = let no : false ≡ true = is in cc
-found-grown (Accept status, Some name) plain type c cs n is = let no : false ≡ true = is in cc
-found-grown (Conditional lookahead status, name) plain type c cs n is = let no : false ≡ true = is in cc
+one-more entry plain type c cs (Some b) is = refl
+one-more (Continue, None) (Continue, name) type c cs None is = refl
+one-more (Continue, None) (Conditional lookahead status, name) type c cs None is = refl
+one-more (Accept status, None) (Accept other, name) type c cs None is = ap (λ s. Some (boundary 1 s)) (eqb-true status (type_after type c) is)
+one-more _ _ type c cs None is = let no : false ≡ true = is in cc
 
--- from a state on, where the machine of words reaches from the state that it is of
-last-found : (q : ℕ) (cs : List ℕ) → q < 29
-    → last_step acceptance_status (entered typed_word_machine q cs) ≡ found_in (type_of q) cs (reach word_machine (under q) cs)
+last-typed : (q : ℕ) (cs : List ℕ) → q < 29
+    → last_step acceptance_status (entered typed_word_machine q cs) ≡ with_type (type_of q) cs (last_step acceptance_status (entered word_machine (under q) cs))
 unfolding last_step
-last-found q [] below =
-    let small = ltb-true _ _ (and_parts (alike (state_at typed_word_machine q) (state_at word_machine (under q)) (type_of q)) _ (all_below-at stands 29 q all-stand below)).1 in
-    ap (λ states. last_step acceptance_status (map (state_at typed_word_machine) states)) (run-end typed_word_machine q (length typed_word_machine.states) (ends q below))
-    ∙ ap (found_in (type_of q) []) (sym (reach-end word_machine (under q) (word-plain.ends (under q) small)))
-last-found q (c ∷ cs) below =
+last-typed q [] below =
+    let ends = and_parts _ _ (and_parts _ _ (all_below-at stands 29 q all-stand below)).1 in
+    ap (last_step acceptance_status) (entered-end typed_word_machine q (length typed_word_machine.states) (none-from _ ends.0))
+    ∙ sym (ap (λ entries. with_type (type_of q) [] (last_step acceptance_status entries)) (entered-end word_machine (under q) (length word_machine.states) (none-from _ ends.1)))
+last-typed q (c ∷ cs) below =
     elim (option-cases (step typed_word_machine q (typed c))) [
       | inl none ↦
-          ap (last_step acceptance_status) (entered-none typed_word_machine q c cs none)
-          ∙ ap (found_in (type_of q) (c ∷ cs)) (sym (reach-none word_machine (under q) c cs (stops q c below none)))
+          ap (last_step acceptance_status) (entered-by typed_word_machine q c cs None none)
+          ∙ sym (ap (λ entries. with_type (type_of q) (c ∷ cs) (last_step acceptance_status entries))
+          (entered-by word_machine (under q) c cs None (stops q c below none)))
       | inr (t, leading) ↦
           let next = goes q c t below leading in
           let entry = state_at typed_word_machine t in
-          let far = reach word_machine (under t) cs in
-          let stands = and_parts (alike entry (state_at word_machine (under t)) (type_of t)) _ (all_below-at stands 29 t all-stand next.below) in
-          ap (last_step acceptance_status) (entered-some typed_word_machine q c t cs leading)
+          let plain = state_at word_machine (under t) in
+          let found = last_step acceptance_status (entered word_machine (under t) cs) in
+          ap (last_step acceptance_status) (entered-by typed_word_machine q c cs (Some t) leading)
           ∙ ap (λ last. option_or (later last) (option_map (λ v. boundary 1 v) (acceptance_status entry)))
-          (last-found t cs next.below ∙ ap (λ type. found_in type cs far) next.types_on)
-          ∙ found-grown entry (state_at word_machine (under t)) (type_of q) c cs far
-          (ap (alike entry (state_at word_machine (under t))) (sym next.types_on) ∙ stands.0)
-          ∙ ap (found_in (type_of q) (c ∷ cs)) (sym (reach-some word_machine (under q) c (under t) cs next.leads_on))
+          (last-typed t cs next.below ∙ ap (λ type. with_type type cs found) next.types_on)
+          ∙ one-more entry plain (type_of q) c cs found
+          (ap (alike entry plain) (sym next.types_on) ∙ (and_parts _ _ (all_below-at stands 29 t all-stand next.below)).0)
+          ∙ sym (ap (λ entries. with_type (type_of q) (c ∷ cs) (last_step acceptance_status entries))
+          (entered-by word_machine (under q) c cs (Some (under t)) next.leads_on))
     ]
 
--- ---- no condition
+-- ---- the pick is the last acceptance, since there are no conditions
 
-simple-states : (states : List ℕ) → every is_simple (map (state_at typed_word_machine) states) ≡ true
+simple-states : (m : Machine) (states : List ℕ) → every is_simple m.states ≡ true → every is_simple (map (state_at m) states) ≡ true
 unfolding state_at
-simple-states [] = refl
-simple-states (q ∷ states) =
-    ap₂ ◌&&◌ (every-at is_simple typed_word_machine.states q (Continue, None) all-simple refl) (simple-states states)
+simple-states m [] are = refl
+simple-states m (q ∷ states) are = ap₂ ◌&&◌ (every-at is_simple m.states q (Continue, None) are refl) (simple-states m states are)
 
 condition-none : (earlier : List Entry) (entry : Entry) → is_simple entry ≡ true → condition earlier entry ≡ None
 condition-none earlier (Continue, None) simple = refl
 condition-none earlier (Accept status, None) simple = refl
-condition-none earlier (Continue, Some name) simple = let no : false ≡ true = simple in cc
-condition-none earlier (Accept status, Some name) simple = let no : false ≡ true = simple in cc
-condition-none earlier (Conditional lookahead status, name) simple = let no : false ≡ true = simple in cc
+condition-none earlier _ simple = let no : false ≡ true = simple in cc
 
 no-condition : (earlier entries : List Entry) → every is_simple entries ≡ true → first_condition earlier entries ≡ None
 unfolding first_condition
@@ -205,28 +203,40 @@ no-condition earlier (entry ∷ entries) simple =
     let parts = and_parts (is_simple entry) (every is_simple entries) simple in
     ap₂ option_or (condition-none earlier entry parts.0) (no-condition (earlier ++ entry ∷ []) entries parts.1)
 
--- ---- the pick
+-- a stretch that ends where this was found, of so many code points
+abbrev stretch_by : ℕ → Option Boundary → Stretch
+stretch_by size found =
+    option_map_or (λ (picked : Boundary). record { extent = picked.offset; boundaries = picked ∷ [] })
+    (option_map (λ (f : Boundary). boundary (min f.offset size) f.status) found) (record { extent = size; boundaries = [] })
 
--- a word of so many code points
-abbrev pub ended : List ℕ → ℕ → Stretch
-ended cs n = record { extent = n; boundaries = boundary n (word_type (take n cs)) ∷ [] }
+stretch-found : (m : Machine) (cs : List ℕ) → every is_simple m.states ≡ true
+    → machine_stretch m cs ≡ stretch_by (length cs) (last_step acceptance_status (entered m 0 cs))
+unfolding machine_stretch pick scan
+stretch-found m cs simple =
+    let states = run m 0 (symbols_of m cs ++ replicate (length m.states) 0) in
+    (λ i. option_map_or (λ (picked : Boundary). record { extent = picked.offset; boundaries = picked ∷ [] })
+    (option_map (λ (f : Boundary). boundary (min f.offset (length-map cs (symbol_in m) i)) f.status)
+    (option_or (no-condition [] (map (state_at m) states) (simple-states m states simple) i) (last_step acceptance_status (entered m 0 cs))))
+    (record { extent = length cs; boundaries = [] }))
 
-picked : (cs : List ℕ) (n : ℕ) → reach word_machine 0 cs ≡ suc n
-    → picked_step (map (state_at typed_word_machine) (scan typed_word_machine (map typed cs))) ≡ Some (boundary (suc n) (word_type (take (suc n) cs)))
-unfolding scan plain_states types
-picked cs n far =
-    let states = run typed_word_machine 0 (map typed cs ++ replicate (length typed_word_machine.states) 0) in
-    ap₂ option_or (no-condition [] (map (state_at typed_word_machine) states) (simple-states states)) (last-found 0 cs (omega arith))
-    ∙ ap (found_in 0 cs) far
+-- two stretches of the same code points without boundaries, or with one at the same end, of which the first has the type
+abbrev pub Same : List ℕ → Stretch → Stretch → Type 0
+Same cs one other =
+    ((one ≡ record { extent = length cs; boundaries = [] }) × (other ≡ record { extent = length cs; boundaries = [] }))
+    ⊎ ((n : ℕ) × ((status : ℕ) × ((one ≡ record { extent = n; boundaries = boundary n (word_type (take n cs)) ∷ [] })
+    × (other ≡ record { extent = n; boundaries = boundary n status ∷ [] }))))
 
--- Law: the first stretch is as far as the machine of words reaches, with the type of what it read
-pub stretch-typed : (cs : List ℕ) (n : ℕ) → reach word_machine 0 cs ≡ suc n → machine_stretch typed_word_machine cs ≡ ended cs (suc n)
-unfolding machine_stretch pick
-stretch-typed cs n far =
-    let few = reach-within word_machine 23 0 cs word-plain word-plain.some in
-    let size : length (map typed cs) ≡ length cs = length-map cs typed in
-    let within : min (suc n) (length (map typed cs)) ≡ suc n = omega (arith, few, far, size) in
-    let type = word_type (take (suc n) cs) in
-    ap (λ found. option_map_or (λ (picked : Boundary). record { extent = picked.offset; boundaries = picked ∷ [] })
-    (option_map (λ (f : Boundary). boundary (min f.offset (length (map typed cs))) f.status) found) (record { extent = length cs; boundaries = [] })) (picked cs n far)
-    ∙ ap (λ k. record { extent = k; boundaries = boundary k type ∷ [] }) within
+same-found : (cs : List ℕ) (found : Option Boundary) → Same cs (stretch_by (length cs) (with_type 0 cs found)) (stretch_by (length cs) found)
+same-found cs None = inl (refl, refl)
+same-found cs (Some b) =
+    let n = min b.offset (length cs) in
+    inr (n, (b.status, (ap (λ word. record { extent = n; boundaries = boundary n (word_type word) ∷ [] }) (sym (take_min b.offset cs)), refl)))
+
+-- Law: so are the first stretches of both machines
+pub stretches : (cs : List ℕ) → Same cs (machine_stretch typed_word_machine cs) (machine_stretch word_machine cs)
+unfolding plain_states types
+stretches cs =
+    let simple = and_parts _ _ all-simple in
+    let found = last_step acceptance_status (entered word_machine 0 cs) in
+    subst₂ (Same cs) (sym (stretch-found typed_word_machine cs simple.0 ∙ ap (stretch_by (length cs)) (last-typed 0 cs (omega arith))))
+    (sym (stretch-found word_machine cs simple.1)) (same-found cs found)

@@ -157,34 +157,8 @@ moves = moves_0 []
 
 unfoldable pub owes_0 : List (ℕ) → List (ℕ)
 owes_0 rest =
-    3 ∷
-    3 ∷
-    4 ∷
-    1 ∷
-    5 ∷
-    6 ∷
-    7 ∷
-    8 ∷
-    9 ∷
-    10 ∷
-    11 ∷
-    12 ∷
-    13 ∷
-    14 ∷
-    3 ∷
-    15 ∷
-    16 ∷
-    17 ∷
-    18 ∷
-    19 ∷
-    20 ∷
-    21 ∷
-    22 ∷
-    23 ∷
-    5 ∷
-    24 ∷
-    25 ∷
-    26 ∷
+    3 ∷ 3 ∷ 4 ∷ 1 ∷ 5 ∷ 6 ∷ 7 ∷ 8 ∷ 9 ∷ 10 ∷ 11 ∷ 12 ∷ 13 ∷ 14 ∷ 3 ∷ 15 ∷ 16 ∷ 17 ∷ 18 ∷ 19 ∷ 20 ∷ 21 ∷ 22 ∷ 23 ∷ 5 ∷
+    24 ∷ 25 ∷ 26 ∷
     rest
 
 unfoldable pub owes : List (ℕ)
@@ -192,8 +166,7 @@ owes = owes_0 []
 
 unfoldable pub dues : List Due
 dues =
-    DueOf (Owed ((28, One) ∷ []) live_tf 1 false ∷ Marks ∷ []) 1 ∷
-    DueOf (Owed ((8, One) ∷ []) live_tf 0 false ∷ []) 1 ∷
+    DueOf (Owed ((28, One) ∷ []) live_tf 1 false ∷ Marks ∷ []) 1 ∷ DueOf (Owed ((8, One) ∷ []) live_tf 0 false ∷ []) 1 ∷
     DueOf (Owed ((28, One) ∷ []) live_tf 1 false ∷ Owed ((3145728, One) ∷ []) live_tf 0 false ∷ Marks ∷ []) 1 ∷
     DueOf (Owed ((28, One) ∷ []) live_tf 1 false ∷ Marks ∷ Owed ((256, One) ∷ []) live_tf 0 true ∷ []) 1 ∷
     DueOf (Owed ((28, One) ∷ []) live_tf 1 false ∷ Marks ∷ Owed ((512, One) ∷ []) live_tf 0 true ∷ Owed ((262144, One) ∷ []) live_tf 0 true ∷ []) 1 ∷
@@ -260,29 +233,10 @@ tables = record { befores = befores; moves = moves; owes = owes; dues = dues; re
 
 unfoldable pub accepts : List (ℕ × ℕ × Bool)
 accepts =
-    (0, 0, false) ∷
-    (1, 0, false) ∷
-    (1, 0, false) ∷
-    (1, 0, false) ∷
-    (1, 0, false) ∷
-    (1, 0, false) ∷
-    (1, 0, false) ∷
-    (1, 0, false) ∷
-    (1, 0, false) ∷
-    (1, 0, false) ∷
-    (1, 0, false) ∷
-    (1, 0, false) ∷
-    (1, 0, false) ∷
-    (1, 0, false) ∷
-    (1, 0, false) ∷
-    (1, 0, false) ∷
-    (1, 0, false) ∷
-    (1, 0, false) ∷
-    (1, 0, false) ∷
-    (1, 0, false) ∷
-    (0, 0, false) ∷
-    (0, 0, false) ∷
-    (0, 0, false) ∷
+    (0, 0, false) ∷ (1, 0, false) ∷ (1, 0, false) ∷ (1, 0, false) ∷ (1, 0, false) ∷ (1, 0, false) ∷ (1, 0, false) ∷
+    (1, 0, false) ∷ (1, 0, false) ∷ (1, 0, false) ∷ (1, 0, false) ∷ (1, 0, false) ∷ (1, 0, false) ∷ (1, 0, false) ∷
+    (1, 0, false) ∷ (1, 0, false) ∷ (1, 0, false) ∷ (1, 0, false) ∷ (1, 0, false) ∷ (1, 0, false) ∷ (0, 0, false) ∷
+    (0, 0, false) ∷ (0, 0, false) ∷
     []
 
 unfoldable pub nexts : List (List ℕ)
@@ -317,56 +271,22 @@ plan = record { accepts = accepts; nexts = nexts }
 
 unfoldable pub waits : List Bool
 waits =
-    false ∷
-    false ∷
-    false ∷
-    false ∷
-    false ∷
-    false ∷
-    false ∷
-    false ∷
-    false ∷
-    false ∷
-    false ∷
-    false ∷
-    false ∷
-    false ∷
-    false ∷
-    false ∷
-    false ∷
-    false ∷
-    false ∷
-    false ∷
-    false ∷
-    false ∷
-    false ∷
+    false ∷ false ∷ false ∷ false ∷ false ∷ false ∷ false ∷ false ∷ false ∷ false ∷ false ∷ false ∷ false ∷ false ∷
+    false ∷ false ∷ false ∷ false ∷ false ∷ false ∷ false ∷ false ∷ false ∷
     []
 
 unfoldable pub relation : List (List Configuration)
 relation =
     (at 0 1 0 false 0 0 0 ∷ at 0 3 0 false 0 0 0 ∷ at 1 3 0 false 0 0 0 ∷ at 2 4 0 false 0 0 0 ∷ at 3 1 0 false 0 0 0 ∷ at 4 5 0 false 0 0 0 ∷ at 5 6 0 false 0 0 0 ∷ at 6 7 0 false 0 0 0 ∷ at 7 8 0 false 0 0 0 ∷ at 8 9 0 false 0 0 0 ∷ at 9 10 0 false 0 0 0 ∷ at 10 11 0 false 0 0 0 ∷ at 11 12 0 false 0 0 0 ∷ at 12 13 0 false 0 0 0 ∷ at 13 14 0 false 0 0 0 ∷ at 14 3 0 false 0 0 0 ∷ at 15 15 0 false 0 0 0 ∷ at 16 16 0 false 0 0 0 ∷ at 17 17 0 false 0 0 0 ∷ at 18 18 0 false 0 0 0 ∷ at 19 19 0 false 0 0 0 ∷ at 20 20 0 false 0 0 0 ∷ at 21 21 0 false 0 0 0 ∷ at 22 22 0 false 0 0 0 ∷ at 23 23 0 false 0 0 0 ∷ at 24 5 0 false 0 0 0 ∷ at 25 24 0 false 0 0 0 ∷ at 26 25 0 false 0 0 0 ∷ at 27 26 0 false 0 0 0 ∷ []) ∷
     (at 1 1 0 true 2 0 0 ∷ at 18 27 0 true 2 0 0 ∷ at 17 28 0 true 2 0 0 ∷ at 21 29 0 true 2 0 0 ∷ at 14 1 0 true 2 0 0 ∷ []) ∷
-    (at 2 1 0 true 2 0 0 ∷ []) ∷
-    (at 3 1 0 true 2 0 0 ∷ []) ∷
-    (at 11 1 0 true 2 0 0 ∷ []) ∷
+    (at 2 1 0 true 2 0 0 ∷ []) ∷ (at 3 1 0 true 2 0 0 ∷ []) ∷ (at 11 1 0 true 2 0 0 ∷ []) ∷
     (at 4 1 0 true 2 0 0 ∷ at 26 27 0 true 2 0 0 ∷ at 25 28 0 true 2 0 0 ∷ at 27 29 0 true 2 0 0 ∷ at 24 1 0 true 2 0 0 ∷ []) ∷
-    (at 8 1 0 true 2 0 0 ∷ []) ∷
-    (at 19 1 0 true 2 0 0 ∷ []) ∷
-    (at 7 1 0 true 2 0 0 ∷ []) ∷
-    (at 16 1 0 true 2 0 0 ∷ []) ∷
-    (at 9 1 0 true 2 0 0 ∷ []) ∷
-    (at 20 1 0 true 2 0 0 ∷ []) ∷
-    (at 6 1 0 true 2 0 0 ∷ []) ∷
-    (at 15 1 0 true 2 0 0 ∷ []) ∷
-    (at 10 1 0 true 2 0 0 ∷ []) ∷
-    (at 22 1 0 true 2 0 0 ∷ []) ∷
-    (at 17 1 0 true 2 0 0 ∷ []) ∷
-    (at 25 1 0 true 2 0 0 ∷ []) ∷
-    (at 5 1 0 true 2 0 0 ∷ at 12 1 0 true 2 0 0 ∷ []) ∷
-    (at 13 1 0 true 2 0 0 ∷ at 23 1 0 true 2 0 0 ∷ []) ∷
-    (at 17 1 28 true 3 0 0 ∷ at 25 1 28 true 3 0 0 ∷ []) ∷
-    (at 18 1 27 true 3 0 0 ∷ at 26 1 27 true 3 0 0 ∷ []) ∷
-    (at 21 1 29 true 3 0 0 ∷ at 27 1 29 true 3 0 0 ∷ []) ∷
+    (at 8 1 0 true 2 0 0 ∷ []) ∷ (at 19 1 0 true 2 0 0 ∷ []) ∷ (at 7 1 0 true 2 0 0 ∷ []) ∷ (at 16 1 0 true 2 0 0 ∷ []) ∷
+    (at 9 1 0 true 2 0 0 ∷ []) ∷ (at 20 1 0 true 2 0 0 ∷ []) ∷ (at 6 1 0 true 2 0 0 ∷ []) ∷ (at 15 1 0 true 2 0 0 ∷ []) ∷
+    (at 10 1 0 true 2 0 0 ∷ []) ∷ (at 22 1 0 true 2 0 0 ∷ []) ∷ (at 17 1 0 true 2 0 0 ∷ []) ∷
+    (at 25 1 0 true 2 0 0 ∷ []) ∷ (at 5 1 0 true 2 0 0 ∷ at 12 1 0 true 2 0 0 ∷ []) ∷
+    (at 13 1 0 true 2 0 0 ∷ at 23 1 0 true 2 0 0 ∷ []) ∷ (at 17 1 28 true 3 0 0 ∷ at 25 1 28 true 3 0 0 ∷ []) ∷
+    (at 18 1 27 true 3 0 0 ∷ at 26 1 27 true 3 0 0 ∷ []) ∷ (at 21 1 29 true 3 0 0 ∷ at 27 1 29 true 3 0 0 ∷ []) ∷
     []
 
 pub rules-are : word_rules ≡ numbered_rules

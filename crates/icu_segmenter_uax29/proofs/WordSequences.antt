@@ -2,7 +2,9 @@
 use Rattle.std.proofs.Common.{◌≡◌, ℕ, Bool, true, false, not, ◌&&◌, ◌||◌, List, [], ◌∷◌, ◌++◌, reverse, Option, Some, None, unwrap_or, refl, sym, ap, ◌∙◌}
 use Rattle.std.proofs.lemmas.Bool.{and_parts}
 use Rattle.std.proofs.lemmas.List.{reverse-append}
-use Rattle.ucd_breaks.specs.WordBreak.{word_break}
+use Rattle.ucd_table.proofs.TrieCheck.{all_below, all_below-at}
+use Rattle.ucd_breaks.specs.WordBreak.{word_break, word_break_from_number, word_break_number}
+use Rattle.ucd_breaks.proofs.WordBreakLemmas.{word_break_from_number-word_break_number, word_break_number-lt}
 use Rattle.ucd_breaks.specs.declared.WordBreak.{WordBreak}
 use Rattle.ucd_emoji.specs.Binary.{is_extended_pictographic}
 use Rattle.unicode_segmentation.specs.Word.{break_by_pair, is_ignored, is_word_break, joins, joins_flag, significant, value_at}
@@ -11,10 +13,8 @@ use Rattle.icu_segmenter_uax29.specs.Neighbours.{IsWordJoined, WordsHoldTogether
 use Rattle.icu_segmenter_uax29.specs.Words.{word_machine}
 use Rattle.icu_segmenter_uax29.proofs.Boundaries.{boundaries-break}
 use Rattle.icu_segmenter_uax29.proofs.Lists.{every, passes}
-use Rattle.icu_segmenter_uax29.proofs.Tests.{clash, not-true}
-use Rattle.icu_segmenter_uax29.proofs.WordKnowledge.{Far, joins-ahead, joins-split, joins_by, joins_far}
-use Rattle.icu_segmenter_uax29.proofs.WordTables.{for-kinds, for_kinds}
-use Rattle.icu_segmenter_uax29.proofs.WordWalks.{rule-ends, words-are}
+use Rattle.icu_segmenter_uax29.proofs.Tests.{is_kept, kept-from, clash, not-true}
+use Rattle.icu_segmenter_uax29.proofs.WordPlaces.{rule-ends, words-are}
 
 -- where the rules don't break there is no boundary
 joined : (before after : List ℕ) (last next : ℕ) → is_word_break (last ∷ reverse before) (next ∷ after) ≡ false → IsWordJoined (before ++ last ∷ []) (next ∷ after)
@@ -25,15 +25,6 @@ joined before after last next is has =
     is
 
 -- ---- by the rules on pairs
-
-abbrev is_kept : Option Bool → Bool
-is_kept (Some false) = true
-is_kept _ = false
-
-kept-from : (found : Option Bool) → is_kept found ≡ true → found ≡ Some false
-kept-from (Some false) h = refl
-kept-from (Some true) h = cc
-kept-from None h = cc
 
 -- a test of two values, whether the second is a pictograph or not
 abbrev either_way : (Bool → Bool) → Bool
@@ -87,22 +78,22 @@ word-joined before after last next opening is =
     (ap (λ left. unwrap_or found (not (joins (value_at left 1) (value_at left 0) (word_break next) far || flag))) (significant-kept last (reverse before) (not-true _ parts.0))
     ∙ open-joined found _ flag (either-way (λ pictograph. is_open (break_by_pair (word_break last) (word_break next) pictograph)) parts.1 (is_extended_pictographic next)) is)
 
-abbrev for_far : (Far → Bool) → Bool
-for_far test = either_way (λ a. either_way (λ b. either_way (λ c. test (a, b, c))))
+-- each value passes
+abbrev for_values : (WordBreak → Bool) → Bool
+for_values test = all_below (λ number. test (word_break_from_number number)) 19
 
-for-far : (test : Far → Bool) → for_far test ≡ true → (far : Far) → test far ≡ true
-for-far test h (a, b, c) =
-    either-way (λ c. test (a, b, c)) (either-way (λ b. either_way (λ c. test (a, b, c))) (either-way (λ a. either_way (λ b. either_way (λ c. test (a, b, c)))) h a) b) c
+for-values : (test : WordBreak → Bool) → for_values test ≡ true → (value : WordBreak) → test value ≡ true
+for-values test h value =
+    ap test (sym (word_break_from_number-word_break_number value))
+    ∙ all_below-at (λ number. test (word_break_from_number number)) 19 (word_break_number value) h (word_break_number-lt value)
 
 -- whatever stands far on both sides
 abbrev always : WordBreak → WordBreak → Bool
-always left right = for_far (λ far. for_kinds (joins_by far left right))
+always left right = for_values (λ far_left. for_values (joins far_left left right))
 
 always-joins : (far_left left right far_right : WordBreak) → always left right ≡ true → joins far_left left right far_right ≡ true
 always-joins far_left left right far_right h =
-    let far = joins_far far_left left right in
-    joins-split far_left left right far_right ∙ joins-ahead far left right far_right
-    ∙ for-kinds (joins_by far left right) (for-far (λ far. for_kinds (joins_by far left right)) h far) far_right
+    for-values (joins far_left left right) (for-values (λ far_left. for_values (joins far_left left right)) h far_left) far_right
 
 abbrev joins_all : WordBreak → WordBreak → Bool
 joins_all last next = opens last next && always last next
@@ -121,8 +112,8 @@ join-together lasts nexts are before after last next is_last is_next =
 -- what stands before the first, and after the last, is whatever it is
 abbrev holds : WordBreak → WordBreak → WordBreak → Bool
 holds first middle last =
-    (opens first middle && for_far (λ far. joins_by far first middle last))
-    && ((opens middle last && for_kinds (joins_by (joins_far first middle last) middle last)) && not (is_ignored last))
+    (opens first middle && for_values (λ far. joins far first middle last))
+    && ((opens middle last && for_values (joins first middle last)) && not (is_ignored last))
 
 abbrev pub are_held : List WordBreak → List WordBreak → Bool
 are_held ends middles = every (λ first. every (λ middle. every (holds first middle) ends) middles) ends
@@ -130,23 +121,20 @@ are_held ends middles = every (λ first. every (λ middle. every (holds first mi
 hold : (before after : List ℕ) (first middle last : ℕ) → holds (word_break first) (word_break middle) (word_break last) ≡ true
     → IsWordJoined (before ++ first ∷ []) (middle ∷ last ∷ after) × IsWordJoined ((before ++ first ∷ []) ++ middle ∷ []) (last ∷ after)
 hold before after first middle last h =
-    let one = and_parts (opens (word_break first) (word_break middle) && for_far (λ far. joins_by far (word_break first) (word_break middle) (word_break last))) _ h in
+    let one = and_parts (opens (word_break first) (word_break middle) && for_values (λ far. joins far (word_break first) (word_break middle) (word_break last))) _ h in
     let two = and_parts (opens (word_break first) (word_break middle)) _ one.0 in
-    let three = and_parts (opens (word_break middle) (word_break last) && for_kinds (joins_by (joins_far (word_break first) (word_break middle) (word_break last)) (word_break middle) (word_break last))) _ one.1 in
+    let three = and_parts (opens (word_break middle) (word_break last) && for_values (joins (word_break first) (word_break middle) (word_break last))) _ one.1 in
     let four = and_parts (opens (word_break middle) (word_break last)) _ three.0 in
     let start = and_parts (not (is_ignored (word_break first))) _ two.0 in
     let far = value_at (significant (reverse before)) 0 in
     let next = value_at (significant after) 0 in (
       word-joined before (last ∷ after) first middle two.0
           (ap (λ values. joins far (word_break first) (word_break middle) (value_at values 0)) (significant-kept last after (not-true _ three.1))
-          ∙ joins-split far (word_break first) (word_break middle) (word_break last)
-          ∙ for-far (λ far. joins_by far (word_break first) (word_break middle) (word_break last)) two.1 (joins_far far (word_break first) (word_break middle))),
+          ∙ for-values (λ far. joins far (word_break first) (word_break middle) (word_break last)) two.1 far),
       word-joined (before ++ first ∷ []) after middle last four.0
           (ap (λ past. joins (value_at (significant past) 0) (word_break middle) (word_break last) next) (reverse-append before (first ∷ []))
           ∙ ap (λ values. joins (value_at values 0) (word_break middle) (word_break last) next) (significant-kept first (reverse before) (not-true _ start.0))
-          ∙ joins-split (word_break first) (word_break middle) (word_break last) next
-          ∙ joins-ahead (joins_far (word_break first) (word_break middle) (word_break last)) (word_break middle) (word_break last) next
-          ∙ for-kinds (joins_by (joins_far (word_break first) (word_break middle) (word_break last)) (word_break middle) (word_break last)) four.1 next),
+          ∙ for-values (joins (word_break first) (word_break middle) (word_break last)) four.1 next),
     )
 
 pub hold-together : (ends middles : List WordBreak) → are_held ends middles ≡ true → WordsHoldTogether ends middles

@@ -29,8 +29,6 @@ ghost use Rattle.icu_segmenter_uax29.specs.WordTypes.{HasTypedWordBreak, charact
 ghost use Rattle.icu_segmenter_uax29.specs.WordValues.{HasWordBreak};
 ghost use Rattle.icu_segmenter_uax29.specs.Words.{FindsWords, word_machine, words};
 
-use seg_rules::laws::boundaries_are_places;
-
 /// Law: the symbol of every code point in the machine of clusters means its Grapheme_Cluster_Break, Indic_Conjunct_Break and Extended_Pictographic.
 pub fn symbols_are_properties()
     ensures { (code_point : ℕ) → HasProperties code_point (symbol_and_script cluster_machine code_point).0 }
@@ -47,9 +45,7 @@ pub fn clusters_are_uax29()
 /// break, GB3 to GB999 of UAX #29.
 pub fn clusters_follow_rules()
     ensures { FollowsRules cluster_rules cluster_machine }
-{
-    boundaries_are_places();
-}
+{}
 
 /// Law: a cluster never parts CR LF.
 pub fn line_ends_stay()
@@ -107,9 +103,7 @@ pub fn sentences_are_uax29()
 /// break, SB3 to SB998 of UAX #29.
 pub fn sentences_follow_rules()
     ensures { FollowsRules sentence_rules sentence_machine }
-{
-    boundaries_are_places();
-}
+{}
 
 /// Law: the symbol of every code point in the machine of words means its Word_Break and Extended_Pictographic.
 pub fn word_symbols_are_properties()
@@ -127,9 +121,7 @@ pub fn words_are_uax29()
 /// break, WB3 to WB999 of UAX #29.
 pub fn words_follow_rules()
     ensures { FollowsRules word_rules word_machine }
-{
-    boundaries_are_places();
-}
+{}
 
 /// Law: in the machine of typed words the symbol of every code point means its Word_Break and Extended_Pictographic, and
 /// says whether it is a letter that the rules know nothing of.
@@ -150,9 +142,7 @@ pub fn typed_words_are_words()
     ensures words { FindsWords (machine_boundaries typed_word_machine) }
     ensures rows { (code_points : List ℕ) → offsets (machine_boundaries typed_word_machine code_points)
         ≡ offsets (start ∷ plain_places word_rules 0 [] (symbols_of word_machine code_points)) }
-{
-    words_follow_rules();
-}
+{}
 
 /// Law: the status of each boundary but the first is the type of the word before it.
 pub fn word_types()

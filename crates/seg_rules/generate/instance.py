@@ -27,6 +27,8 @@ AT = ["abbrev at : (before doubt older : ℕ) (newest : Bool) (last status named
 NONE = 255
 # How many of what stands before a place one proof is about.
 PART = 30
+# How wide a line of several elements may be.
+WIDTH = 118
 
 
 def chain(items):
@@ -63,6 +65,18 @@ class Numbers:
         return self.number[due]
 
 
+def packed(items):
+    """Lines of the elements of a list, each with what joins it to the next."""
+    line = "   "
+    for item in items:
+        if len(line) + len(item) > WIDTH and line.strip():
+            yield line
+            line = "   "
+        line += f" {item} ∷"
+    if line.strip():
+        yield line
+
+
 class Instance:
     def __init__(self, rules, machine, relation):
         self.rules, self.machine, self.relation = rules, machine, relation
@@ -70,14 +84,14 @@ class Instance:
         self.lives, self.lines = {}, []
 
     def define(self, name, kind, items):
-        self.lines += [f"unfoldable pub {name} : {kind}", f"{name} =", *(f"    {item} ∷" for item in items), "    []", ""]
+        self.lines += [f"unfoldable pub {name} : {kind}", f"{name} =", *packed(items), "    []", ""]
 
     def in_parts(self, name, kind, items):
         """A list in parts, each before the rest, so that no proof computes too much. The number of parts."""
         parts = [items[k:k + PART] for k in range(0, len(items), PART)]
         for k, part in enumerate(parts):
             self.lines += [f"unfoldable pub {name}_{k} : List ({kind}) → List ({kind})", f"{name}_{k} rest =",
-                           *(f"    {item} ∷" for item in part), "    rest", ""]
+                           *packed(part), "    rest", ""]
         whole = "[]"
         for k in reversed(range(len(parts))):
             whole = f"{name}_{k} {whole if whole == '[]' else f'({whole})'}"

@@ -13,35 +13,35 @@ use Rattle.seg_rules.proofs.StepLemmas.{once-is}
 
 -- ---- where what follows an item may begin
 
-abbrev Begins : Type 0
+abbrev pub Begins : Type 0
 Begins = List ℕ → Bool
 
-unfoldable after_one : ℕ → Begins → Begins
+unfoldable pub after_one : ℕ → Begins → Begins
 after_one class begins [] = false
 after_one class begins (x ∷ xs) = begins xs && has class x
 
-unfoldable after_optional : ℕ → Begins → Begins
+unfoldable pub after_optional : ℕ → Begins → Begins
 after_optional class begins [] = begins [] || false
 after_optional class begins (x ∷ xs) = begins (x ∷ xs) || (begins xs && has class x)
 
-unfoldable after_star : ℕ → Begins → Begins
+unfoldable pub after_star : ℕ → Begins → Begins
 after_star class begins [] = begins [] || false
 after_star class begins (x ∷ xs) = begins (x ∷ xs) || (after_star class begins xs && has class x)
 
 -- after pairs, and after half of one more
-unfoldable after_pairs : ℕ → Begins → List ℕ → Bool × Bool
+unfoldable pub after_pairs : ℕ → Begins → List ℕ → Bool × Bool
 after_pairs class begins [] = (begins [] || false, false)
 after_pairs class begins (x ∷ xs) =
     let past = after_pairs class begins xs in
     (begins (x ∷ xs) || (past.1 && has class x), past.0 && has class x)
 
-unfoldable after_item : ℕ → Count → Begins → Begins
+unfoldable pub after_item : ℕ → Count → Begins → Begins
 after_item class One begins = after_one class begins
 after_item class Optional begins = after_optional class begins
 after_item class Star begins = after_star class begins
 after_item class Pairs begins = λ xs. (after_pairs class begins xs).0
 
-unfoldable reached : Pattern → Begins → List ℕ → Bool
+unfoldable pub reached : Pattern → Begins → List ℕ → Bool
 reached [] begins xs = begins xs
 reached ((class, count) ∷ items) begins xs = reached items (after_item class count begins) xs
 
@@ -95,7 +95,7 @@ some-flags ((class, Pairs) ∷ items) begins xs = (_, (_, flags-pairs class item
 full-before : (items : Pattern) (begins : Begins) (xs : List ℕ) (b : Bool) → is_full (b ∷ flags begins items xs) ≡ is_full (flags begins items xs)
 full-before items begins xs b = let (c, (live, is)) = some-flags items begins xs in full-more begins items xs b _ refl c live is
 
-full-is : (pattern : Pattern) (begins : Begins) (xs : List ℕ) → is_full (flags begins pattern xs) ≡ reached pattern begins xs
+pub full-is : (pattern : Pattern) (begins : Begins) (xs : List ℕ) → is_full (flags begins pattern xs) ≡ reached pattern begins xs
 unfolding reached after_item is_full
 full-is [] begins xs = ap is_full (flags-none begins xs)
 full-is ((class, One) ∷ items) begins xs =

@@ -81,13 +81,13 @@ found rules n (y ∷ rest) k base past x behind ahead =
       }
     ]
 
-shift-shift : (n e : ℕ) (found : List Boundary) → shift_all n (shift_all e found) ≡ shift_all (n + e) found
+pub shift-shift : (n e : ℕ) (found : List Boundary) → shift_all n (shift_all e found) ≡ shift_all (n + e) found
 shift-shift n e [] = refl
 shift-shift n e (b ∷ found) =
     let same : n + (e + b.offset) ≡ n + e + b.offset = omega arith in
     λ i. boundary (same i) b.status ∷ shift-shift n e found i
 
-shift-zero : (found : List Boundary) → shift_all 0 found ≡ found
+pub shift-zero : (found : List Boundary) → shift_all 0 found ≡ found
 shift-zero [] = refl
 shift-zero (b ∷ found) = λ i. boundary (zero-add b.offset i) b.status ∷ shift-zero found i
 

@@ -11,9 +11,9 @@ mod StepLemmas
 mod Soundness
 mod Scans
 mod Engine
-mod Law
-mod Adequacy
-mod Verdicts
+pub mod Law
+pub mod Adequacy
+pub mod Verdicts
 mod Plans
 mod Reader
 mod Examples

@@ -46,11 +46,11 @@ dead-full (false ∷ []) h = refl
 dead-full (false ∷ (b ∷ live)) h = dead-full (b ∷ live) h
 
 -- what is live fits what comes
-unfoldable fits_on : Pattern → List Bool → List ℕ → Bool
+unfoldable pub fits_on : Pattern → List Bool → List ℕ → Bool
 fits_on pattern live [] = false
 fits_on pattern live (y ∷ ys) = is_full (flow false pattern live y) || fits_on pattern (flow false pattern live y) ys
 
-dead-fits : (pattern : Pattern) (live : List Bool) (ys : List ℕ) → is_live live ≡ false → fits_on pattern live ys ≡ false
+pub dead-fits : (pattern : Pattern) (live : List Bool) (ys : List ℕ) → is_live live ≡ false → fits_on pattern live ys ≡ false
 unfolding fits_on
 dead-fits pattern live [] h = refl
 dead-fits pattern live (y ∷ ys) h =
@@ -61,7 +61,7 @@ or-none : (b : Bool) → b ≡ (b || false)
 or-none true = refl
 or-none false = refl
 
-right-fits-on : (pattern : Pattern) (were_read ys : List ℕ)
+pub right-fits-on : (pattern : Pattern) (were_read ys : List ℕ)
     → right_fits pattern were_read ys ≡ (is_full (right_flags pattern were_read) || fits_on pattern (right_flags pattern were_read) ys)
 unfolding right_fits fits_on flags
 right-fits-on pattern were_read [] = or-none _

@@ -3,7 +3,7 @@ use Rattle.unicode_segmentation.specs.Grapheme.{is_grapheme_break}
 use Rattle.seg_machine.specs.Pick.{machine_boundaries}
 use Rattle.icu_segmenter_uax29.specs.Clusters.{cluster_machine}
 use Rattle.icu_segmenter_uax29.proofs.Boundaries.{boundaries-break, breaks-bound}
-use Rattle.icu_segmenter_uax29.proofs.Clusters.{clusters-are, rule-ends}
+use Rattle.icu_segmenter_uax29.proofs.ClusterPlaces.{clusters-are, rule-ends}
 use Rattle.icu_segmenter_uax29.proofs.Segments.{finds-pieces}
 use Rattle.icu_segmenter_uax29.proofs.laws.clusters_are_uax29.Goals as goal
 

@@ -2,7 +2,7 @@ use Rattle.unicode_segmentation.specs.Sentence.{is_sentence_break}
 use Rattle.seg_machine.specs.Pick.{machine_boundaries}
 use Rattle.icu_segmenter_uax29.specs.Sentences.{sentence_machine}
 use Rattle.icu_segmenter_uax29.proofs.Boundaries.{boundaries-break, breaks-bound}
-use Rattle.icu_segmenter_uax29.proofs.SentenceWalks.{rule-ends, sentences-are}
+use Rattle.icu_segmenter_uax29.proofs.SentencePlaces.{rule-ends, sentences-are}
 use Rattle.icu_segmenter_uax29.proofs.Segments.{finds-pieces}
 use Rattle.icu_segmenter_uax29.proofs.laws.sentences_are_uax29.Goals as goal
 

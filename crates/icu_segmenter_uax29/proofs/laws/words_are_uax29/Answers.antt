@@ -2,7 +2,7 @@ use Rattle.unicode_segmentation.specs.Word.{is_word_break}
 use Rattle.seg_machine.specs.Pick.{machine_boundaries}
 use Rattle.icu_segmenter_uax29.specs.Words.{word_machine}
 use Rattle.icu_segmenter_uax29.proofs.Boundaries.{boundaries-break, breaks-bound}
-use Rattle.icu_segmenter_uax29.proofs.WordWalks.{rule-ends, words-are}
+use Rattle.icu_segmenter_uax29.proofs.WordPlaces.{rule-ends, words-are}
 use Rattle.icu_segmenter_uax29.proofs.Segments.{finds-pieces}
 use Rattle.icu_segmenter_uax29.proofs.laws.words_are_uax29.Goals as goal
 

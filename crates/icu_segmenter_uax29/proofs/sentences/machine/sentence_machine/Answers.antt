@@ -1,9 +1,9 @@
-use Rattle.icu_segmenter_uax29.specs.declared.sentences.ranges.TheConstants.{RANGES}
-use Rattle.icu_segmenter_uax29.specs.declared.sentences.states.TheConstants.{STATES}
-use Rattle.icu_segmenter_uax29.specs.declared.sentences.transitions.TheConstants.{TRANSITIONS}
-use Rattle.icu_segmenter_uax29.proofs.Faultless.{memory-alone}
-use Rattle.icu_segmenter_uax29.proofs.SentenceFaults.{are-sound}
+use Rattle.icu_segmenter_uax29.specs.Sentences.{sentence_machine}
+use Rattle.icu_segmenter_uax29.proofs.SentenceCertificate.{waits}
+use Rattle.icu_segmenter_uax29.proofs.Faults.{sentence-is-sound}
+use Rattle.icu_segmenter_uax29.proofs.MachineTests.{memory-alone}
 use Rattle.icu_segmenter_uax29.proofs.sentences.machine.sentence_machine.Goals as goal
 
 pub returns-clause-rejected : goal.returns-clause-rejected
-returns-clause-rejected c = memory-alone RANGES STATES TRANSITIONS 12 16 are-sound c.machine_of.result c.machine_of.ensures.rejected
+unfolding sentence_machine
+returns-clause-rejected c = memory-alone sentence_machine 12 15 waits sentence-is-sound c.machine_of.result c.machine_of.ensures.rejected

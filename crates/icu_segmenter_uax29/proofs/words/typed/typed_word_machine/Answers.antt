@@ -1,6 +1,6 @@
 use Rattle.icu_segmenter_uax29.specs.TypedWords.{typed_word_machine}
 use Rattle.icu_segmenter_uax29.proofs.MachineTests.{memory-alone}
-use Rattle.icu_segmenter_uax29.proofs.TypedFaults.{typed-is-sound}
+use Rattle.icu_segmenter_uax29.proofs.Faults.{typed-is-sound}
 use Rattle.icu_segmenter_uax29.proofs.TypedStates.{waits}
 use Rattle.icu_segmenter_uax29.proofs.words.typed.typed_word_machine.Goals as goal
 
