@@ -1,6 +1,6 @@
 //! The command line.
 ghost use Rattle.std.specs.Prelude.{◌≡◌, ◌≢◌, ◌<◌, ◌==◌, false, Some, codes, length, IfOk, MatchResult, OnOk};
-ghost use Rattle.std.specs.List.{before_first};
+ghost use Rattle.std.specs.List.{before_first, list_any};
 ghost use Rattle.std.specs.Option.{option_map, option_map_or};
 ghost use Rattle.std.specs.Str.{str_to_ascii_lowercase};
 ghost use Rattle.icu_segmenter.specs.declared.provider.ComplexScript.{ComplexScript as AnyScript};
@@ -178,7 +178,7 @@ fn check_indent(indent: &str, columns: usize) -> Result<()>
     ensures { OnOk result (IsIndent columns indent.now) }
 {
     ensure!(
-        !indent.as_bytes().iter().any(|byte| is_control(*byte)),
+        !has_control(indent.as_bytes()),
         "an indent has no tabs nor other control characters"
     );
     ensure!(
@@ -188,11 +188,11 @@ fn check_indent(indent: &str, columns: usize) -> Result<()>
     Ok(())
 }
 
-// Whether a byte is a control character of ASCII.
-fn is_control(byte: u8) -> bool
-    ensures { result ≡ is_control byte }
+// Whether a text has control characters of ASCII.
+fn has_control(text: &[u8]) -> bool
+    ensures { result ≡ list_any is_control text.now }
 {
-    byte < b' ' || byte == 0x7F
+    text.iter().any(|byte| *byte < b' ' || *byte == 0x7F)
 }
 
 fn columns_of(matches: &ArgMatches<'_>) -> usize

@@ -89,7 +89,7 @@ fn wrapper_by(
     request: &Request<'_>,
     words: Vocabulary,
 ) -> Result<Wrapper>
-    ensures { IfOk result (λ wrapper. (options : _) × AreOptions request.now options × IsAskedWrapper width options (script_words words.dictionaries) wrapper) }
+    ensures { IfOk result (λ wrapper. (options : _) × AreOptions request.now options × IsAskedWrapper width.entry options (script_words words.dictionaries) wrapper) }
 {
     let Vocabulary {
         dictionaries,

@@ -33,7 +33,7 @@ pub trait ReadLists {
 
 /// The lists that a task takes.
 pub fn choice_by(task: Task<'_>) -> Choice
-    ensures { result ≡ choice_by task }
+    ensures { result ≡ choice_by task.entry }
 {
     match task {
         Task::Cut(Kind::Words { .. }, _, _) => Choice::All,
