@@ -1,0 +1,6 @@
+pub mod Choosing
+pub mod Growing
+pub mod Nodes
+pub mod Raising
+pub mod Said
+pub mod Splitting
