@@ -191,7 +191,7 @@ at-most-value : (hyphenation : Hyphenation) (letters : List ℕ) (place v w : �
 at-most-value hyphenation letters place v w a b (inl h) = b.greatest v (a.is h)
 at-most-value hyphenation letters place v w a b (inr h) = omega (arith, h)
 
-some-or : (v : ℕ) → (0 < v) ⊎ (v ≡ 0)
+pub some-or : (v : ℕ) → (0 < v) ⊎ (v ≡ 0)
 some-or v = by (eqb_tells v 0) where
   by : (((v == 0) ≡ true) × (v ≡ 0)) ⊎ (((v == 0) ≡ false) × (v ≢ 0)) → (0 < v) ⊎ (v ≡ 0)
   by (inl e) = inr e.1

@@ -13,7 +13,7 @@ use Rattle.seg_hyphens.proofs.Nodes.{walk-append, walk-none, walk-one}
 
 -- ---- cases of two numbers
 
-below-or : (m n : ℕ) → (m < n) ⊎ (n ≤ m)
+pub below-or : (m n : ℕ) → (m < n) ⊎ (n ≤ m)
 below-or m n = by (nat_lt m n) refl where
   by : (b : Bool) → nat_lt m n ≡ b → (m < n) ⊎ (n ≤ m)
   by true e = inl (grind (arith, nat_tests))

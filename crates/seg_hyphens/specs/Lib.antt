@@ -1,3 +1,4 @@
+pub mod Characters
 pub mod Liang
 pub mod Patterns
 pub mod Reading

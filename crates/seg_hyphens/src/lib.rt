@@ -4,6 +4,7 @@
 #![tactic(auto)]
 
 pub mod fault;
+pub mod laws;
 mod lines;
 pub mod patterns;
 mod places;
