@@ -30,7 +30,7 @@ pub record HasNames (child : ℕ → ℕ → Option ℕ) (ranges : List (ℕ × 
   pub range : (node : ℕ) → node < length ranges
       → (slice_index_or ranges node (0, 0)).0 + (slice_index_or ranges node (0, 0)).1 ≤ length digits
 
--- the same node and the same letter
+-- whether two pairs have equal nodes and equal letters
 abbrev pub is_same : ℕ × ℕ → ℕ × ℕ → Bool
 is_same a b = (a.0 == b.0) && (a.1 == b.1)
 

@@ -1,6 +1,6 @@
 //! Patterns of hyphenation, and the points of words.
 
-ghost use Rattle.std.specs.Prelude.{◌≡◌, List, [], None, IfErr, IfOk, OnOk, OnErr};
+ghost use Rattle.std.specs.Prelude.{◌≡◌, [], None, IfErr, IfOk, OnOk, OnErr};
 ghost use Rattle.seg_hyphens.specs.Tries.{IsSound};
 
 use crate::fault::{Fault, HyphenationError};
@@ -45,8 +45,8 @@ impl HyphenationPatterns {
     /// without them 2 do. COMPOUNDLEFTHYPHENMIN and COMPOUNDRIGHTHYPHENMIN say nothing, since there is one level. White space at the
     /// end of a line counts for nothing. Where digits stand side by side, the last one counts.
     ///
-    /// Takes about 50 bytes for each beginning of a pattern. `Text` has the first line that is at fault, and its fault; `Memory` comes when
-    /// out of memory, and in each text that is read before.
+    /// Takes some 65 bytes for each beginning of a pattern, which patterns that begin alike share. `Text` has the first line that is at fault,
+    /// and its fault. `Memory` comes when out of memory before that line.
     pub fn try_from_text(alloc: Global, text: &[u8]) -> Result<Self, HyphenationError>
         ensures ok { IfOk result (λ patterns. (hyphenation : Hyphenation) × (Says text.now hyphenation × Means patterns hyphenation)) }
         ensures faultless { OnOk result (fault_in text.now ≡ None) }
@@ -66,8 +66,8 @@ impl HyphenationPatterns {
     /// stood there goes.
     ///
     /// Of all patterns that fit the word with its edges, the greatest digit at a place decides. A point is where it is odd, and where as many
-    /// characters as the patterns want stand before and behind. Letters are taken as they are: in lower case, where the patterns are.
-    /// A dot in the word counts as an edge of it.
+    /// characters as the patterns want stand before and behind. Letters are taken as they are, so a caller puts the word into lower case where
+    /// the patterns are. A dot in the word counts as an edge of it.
     ///
     /// Takes 8 bytes in `points` for each byte of the word, and 24 more, unless they are there. `points` is empty after an error, which is
     /// want of memory.

@@ -1,6 +1,6 @@
 //! Places of a word that values choose.
 
-ghost use Rattle.std.specs.Prelude.{◌≡◌, ℕ, ◌+◌, ◌%◌, ◌<◌, ◌≤◌, ◌↔◌, ◌^◌, true, IsTrue, length, Contains};
+ghost use Rattle.std.specs.Prelude.{◌≡◌, ℕ, ◌+◌, ◌%◌, ◌<◌, ◌≤◌, ◌↔◌, IsTrue, length, Contains};
 ghost use Rattle.std.specs.List.Sorted.{IsStrictlyIncreasing};
 ghost use Rattle.seg_hyphens.specs.Liang.{characters, is_first};
 ghost use Rattle.seg_hyphens.specs.Values.{IsChosen};

@@ -1,6 +1,6 @@
 //! A reader of lines of patterns.
 
-ghost use Rattle.std.specs.Prelude.{◌≡◌, ◌+◌, ◌++◌, ◌∷◌, ◌<◌, ◌^◌, IfOk, IfErr, OnOk, List, [], encode_utf8, encode_utf8_all, length, map};
+ghost use Rattle.std.specs.Prelude.{◌≡◌, ◌++◌, ◌∷◌, [], List, IfOk, IfErr, OnOk, encode_utf8, encode_utf8_all, map};
 ghost use Rattle.seg_hyphens.specs.Texts.{decoded, lines, pattern_of, trimmed};
 ghost use Rattle.seg_hyphens.specs.Liang.{Pattern};
 ghost use Rattle.seg_hyphens.specs.Tries.{IsTrie, Keeps};

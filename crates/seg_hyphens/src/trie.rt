@@ -1,6 +1,7 @@
 //! Patterns in a trie.
 
-ghost use Rattle.std.specs.Prelude.{◌≡◌, ℕ, ◌+◌, ◌++◌, ◌∷◌, List, [], ◌<◌, ◌≤◌, IfOk, OnOk, Option, Some, None, length, take, drop};
+ghost use Rattle.std.specs.Prelude.{◌≡◌, ◌+◌, ◌++◌, ◌<◌, ◌≤◌, Some, IfOk, OnOk, [], length, take, drop, slice_index};
+ghost use Rattle.seg_hyphens.specs.Tries.{merged};
 
 use std::alloc::{AllocError, Global};
 use std::collections::HashMap;
@@ -103,9 +104,6 @@ impl Trie {
         Ok(())
     }
 }
-
-ghost use Rattle.std.specs.Prelude.{max, slice_index};
-ghost use Rattle.seg_hyphens.specs.Tries.{merged};
 
 // The digit at a place, and 0 behind the last.
 fn digit_at(digits: &[u8], offset: usize) -> u8

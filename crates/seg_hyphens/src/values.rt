@@ -1,11 +1,9 @@
 //! Values of places, found in a trie.
 
-ghost use Rattle.std.specs.Prelude.{◌≡◌, ℕ, ◌+◌, ◌<◌, ◌≤◌, ◌^◌, None, max, length, slice_index, Contains, ◌↔◌, ◌==◌};
-ghost use Rattle.std.specs.List.Sorted.{IsStrictlyIncreasing};
-ghost use Rattle.seg_hyphens.specs.Liang.{characters, edged, is_first, IsValue, Pattern};
+ghost use Rattle.std.specs.Prelude.{◌≡◌, ℕ, ◌+◌, ◌<◌, ◌≤◌, ◌^◌, None, List, max, length, slice_index};
+ghost use Rattle.seg_hyphens.specs.Liang.{edged, IsValue, Pattern};
 ghost use Rattle.seg_hyphens.specs.Tries.{child, IsSound, Keeps};
-ghost use Rattle.seg_hyphens.specs.Values.{AreRaised, IsChosen, IsNode};
-ghost use Rattle.std.specs.Prelude.{List};
+ghost use Rattle.seg_hyphens.specs.Values.{AreRaised};
 
 use crate::trie::Trie;
 
