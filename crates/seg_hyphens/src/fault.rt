@@ -29,7 +29,8 @@ pub enum Fault {
     /// No number after LEFTHYPHENMIN or RIGHTHYPHENMIN.
     #[error("wanted a space and a digit from 1 to 9")]
     NotNumber,
-    /// Patterns of a second level, which are not read.
+    /// Patterns of a second level, for what stands between the points of the first. Each level is read as a text of its own, behind the first
+    /// line.
     #[error("wanted patterns of one level, without NEXTLEVEL")]
     NextLevel,
     /// Characters beside which words are not hyphenated, which are not read.
