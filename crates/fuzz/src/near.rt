@@ -1,10 +1,13 @@
 //! What stands next to a place, as boundaries say it: by a cursor, and among words.
 
+ghost use Rattle.std.specs.Prelude.{◌≡◌, length};
+ghost use Rattle.seg_text.specs.Boundaries.{boundaries_in, IsCover};
+
 use crate::failure::{Failure, check};
 use bench::found::Found;
 use bench::segmenter::SegmenterBorrowed;
 use icu_segmenter::cursor::{BoundaryCursor, CursorText, SegmenterOf};
-use icu_segmenter::segments::{BreakIterator, WordBreaks};
+use icu_segmenter::segments::{BreakIterator, MarkedSegments, WordBreaks, Words};
 use icu_segmenter::{
     GraphemeClusterSegmenterBorrowed, LineSegmenterBorrowed, SentenceSegmenterBorrowed,
     WordSegmenterBorrowed,
@@ -18,6 +21,7 @@ pub fn check_near(
     found: &Found,
 ) -> Result<(), Failure> {
     let near = neighbours(found.as_slice(), place);
+    let text = text.as_bytes();
     let agrees = match segmenter {
         SegmenterBorrowed::Clusters(clusters) => agree_clusters(clusters, text, place, near),
         SegmenterBorrowed::Sentences(sentences) => agree_sentences(sentences, text, place, near),
@@ -30,36 +34,38 @@ pub fn check_near(
 // A function for each kind: one that has all four takes three times as long to prove.
 fn agree_clusters(
     clusters: GraphemeClusterSegmenterBorrowed<'_>,
-    text: &str,
+    text: &[u8],
     place: usize,
     near: Near,
 ) -> bool {
-    agrees(BoundaryCursor::new(clusters, text), place, near)
+    agrees(clusters, text, place, near)
 }
 
 fn agree_sentences(
     sentences: SentenceSegmenterBorrowed<'_>,
-    text: &str,
+    text: &[u8],
     place: usize,
     near: Near,
 ) -> bool {
-    agrees(BoundaryCursor::new(sentences, text), place, near)
+    agrees(sentences, text, place, near)
 }
 
-fn agree_words(words: WordSegmenterBorrowed<'_>, text: &str, place: usize, near: Near) -> bool {
-    agrees(BoundaryCursor::new(words, text), place, near)
+fn agree_words(words: WordSegmenterBorrowed<'_>, text: &[u8], place: usize, near: Near) -> bool {
+    agrees(words, text, place, near)
 }
 
-fn agree_lines(lines: LineSegmenterBorrowed<'_>, text: &str, place: usize, near: Near) -> bool {
-    agrees(BoundaryCursor::new(lines, text), place, near)
+fn agree_lines(lines: LineSegmenterBorrowed<'_>, text: &[u8], place: usize, near: Near) -> bool {
+    agrees(lines, text, place, near)
 }
 
 // Whether a cursor finds these boundaries next to a place.
 fn agrees<T: CursorText, S: SegmenterOf<T::Source>>(
-    cursor: BoundaryCursor<T, S>,
+    segmenter: S,
+    text: T,
     place: usize,
     near: Near,
 ) -> bool {
+    let cursor = BoundaryCursor::over(segmenter, text);
     cursor.previous_boundary(place) == near.below
         && cursor.is_boundary(place) == near.is_there
         && cursor.next_boundary(place) == near.above
@@ -101,13 +107,38 @@ pub fn check_words(segmenter: SegmenterBorrowed<'_>, text: &str) -> Result<(), F
 }
 
 fn check_same_words(segmenter: WordSegmenterBorrowed<'_>, text: &str) -> Result<(), Failure> {
-    let mut words = segmenter.segment_str(text).words();
+    let (agrees, has_ended) = compare_words(
+        segmenter.segment_str(text),
+        segmenter.segment_str(text),
+    );
+    check(agrees, "segments that are no words")?;
+    check(has_ended, "words that are no segments")
+}
+
+// Whether the segments that have a type are the first words, and whether there are no others.
+fn compare_words<B: WordBreaks>(breaks: B, others: B) -> (bool, bool)
+where
+    B::Units: PartialEq,
+    requires found { B.left breaks ≡ boundaries_in (B.find breaks) (B.decode (B.whole breaks)) }
+    requires cover { IsCover 0 (length (B.whole breaks)) (B.left breaks) }
+    requires others_found { B.left others ≡ boundaries_in (B.find others) (B.decode (B.whole others)) }
+    requires others_cover { IsCover 0 (length (B.whole others)) (B.left others) }
+{
+    let mut words = others.words();
+    let agrees = have_words(breaks.marked_segments(), &mut words);
+    (agrees, words.next().is_none())
+}
+
+// Whether the segments that have a type are these words, as far as they come.
+fn have_words<B: WordBreaks>(segments: MarkedSegments<B>, words: &mut Words<B>) -> bool
+where
+    B::Units: PartialEq,
+{
     let mut agrees = true;
-    for segment in segmenter.segment_str(text).marked_segments() {
+    for segment in segments {
         if segment.2.is_word_like() {
             agrees &= words.next() == Some(segment);
         }
     }
-    check(agrees, "segments that are no words")?;
-    check(words.next().is_none(), "words that are no segments")
+    agrees
 }

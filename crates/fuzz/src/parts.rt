@@ -5,8 +5,10 @@ ghost use Rattle.seg_text.specs.Boundaries.{boundaries_in, IsCover};
 
 use crate::failure::{Failure, check};
 use bench::segmenter::{SegmenterBorrowed, Text};
-use icu_segmenter::segments::{BreakIterator, Units};
-use icu_segmenter::wrap::LineWrapper;
+use icu_segmenter::cursor::SegmenterOf;
+use icu_segmenter::indices::{Latin1Indices, StrCharIndices, Utf8CharIndices, Utf16Indices};
+use icu_segmenter::segments::{BreakIterator, Source, Units};
+use icu_segmenter::wrap::{LineWrapper, WrapIterator, WrapUtf8Iterator};
 use icu_segmenter::{
     GraphemeClusterSegmenterBorrowed, LineSegmenterBorrowed, SentenceSegmenterBorrowed,
     WordSegmenterBorrowed,
@@ -137,53 +139,62 @@ pub fn check_segments(
     segmenter: SegmenterBorrowed<'_>,
     text: Text<'_>,
 ) -> Result<(), Failure> {
-    let has_parts = match segmenter {
-        SegmenterBorrowed::Clusters(clusters) => has_clusters(manner, clusters, text),
-        SegmenterBorrowed::Sentences(sentences) => has_sentences(manner, sentences, text),
-        SegmenterBorrowed::Words(words) => has_words(manner, words, text),
-        SegmenterBorrowed::Lines(lines) => has_lines(manner, lines, text),
+    let has_parts = match text {
+        Text::Str(text) => has_parts_by::<StrCharIndices<'_>>(manner, segmenter, text),
+        Text::Utf8(text) => has_parts_by::<Utf8CharIndices<'_>>(manner, segmenter, text),
+        Text::Latin1(text) => has_parts_by::<Latin1Indices<'_>>(manner, segmenter, text),
+        Text::Utf16(text) => has_parts_by::<Utf16Indices<'_>>(manner, segmenter, text),
     };
     check(has_parts, "segments that aren't the text")
 }
 
-fn has_clusters(
+fn has_parts_by<I: Source>(manner: u8, segmenter: SegmenterBorrowed<'_>, text: I::Units) -> bool
+where
+    I::Units: Whole,
+{
+    match segmenter {
+        SegmenterBorrowed::Clusters(clusters) => has_clusters::<I>(manner, clusters, text),
+        SegmenterBorrowed::Sentences(sentences) => has_sentences::<I>(manner, sentences, text),
+        SegmenterBorrowed::Words(words) => has_words::<I>(manner, words, text),
+        SegmenterBorrowed::Lines(lines) => has_lines::<I>(manner, lines, text),
+    }
+}
+
+// A function for each kind, and one for all encodings: so the proof is short.
+fn has_clusters<I: Source>(
     manner: u8,
     clusters: GraphemeClusterSegmenterBorrowed<'_>,
-    text: Text<'_>,
-) -> bool {
-    match text {
-        Text::Str(text) => has_parts(manner, clusters.segment_str(text)),
-        Text::Utf8(text) => has_parts(manner, clusters.segment_utf8(text)),
-        Text::Latin1(text) => has_parts(manner, clusters.segment_latin1(text)),
-        Text::Utf16(text) => has_parts(manner, clusters.segment_utf16(text)),
-    }
+    text: I::Units,
+) -> bool
+where
+    I::Units: Whole,
+{
+    has_parts(manner, SegmenterOf::<I>::breaks(&clusters, text))
 }
 
-fn has_sentences(manner: u8, sentences: SentenceSegmenterBorrowed<'_>, text: Text<'_>) -> bool {
-    match text {
-        Text::Str(text) => has_parts(manner, sentences.segment_str(text)),
-        Text::Utf8(text) => has_parts(manner, sentences.segment_utf8(text)),
-        Text::Latin1(text) => has_parts(manner, sentences.segment_latin1(text)),
-        Text::Utf16(text) => has_parts(manner, sentences.segment_utf16(text)),
-    }
+fn has_sentences<I: Source>(
+    manner: u8,
+    sentences: SentenceSegmenterBorrowed<'_>,
+    text: I::Units,
+) -> bool
+where
+    I::Units: Whole,
+{
+    has_parts(manner, SegmenterOf::<I>::breaks(&sentences, text))
 }
 
-fn has_words(manner: u8, words: WordSegmenterBorrowed<'_>, text: Text<'_>) -> bool {
-    match text {
-        Text::Str(text) => has_parts(manner, words.segment_str(text)),
-        Text::Utf8(text) => has_parts(manner, words.segment_utf8(text)),
-        Text::Latin1(text) => has_parts(manner, words.segment_latin1(text)),
-        Text::Utf16(text) => has_parts(manner, words.segment_utf16(text)),
-    }
+fn has_words<I: Source>(manner: u8, words: WordSegmenterBorrowed<'_>, text: I::Units) -> bool
+where
+    I::Units: Whole,
+{
+    has_parts(manner, SegmenterOf::<I>::breaks(&words, text))
 }
 
-fn has_lines(manner: u8, lines: LineSegmenterBorrowed<'_>, text: Text<'_>) -> bool {
-    match text {
-        Text::Str(text) => has_parts(manner, lines.segment_str(text)),
-        Text::Utf8(text) => has_parts(manner, lines.segment_utf8(text)),
-        Text::Latin1(text) => has_parts(manner, lines.segment_latin1(text)),
-        Text::Utf16(text) => has_parts(manner, lines.segment_utf16(text)),
-    }
+fn has_lines<I: Source>(manner: u8, lines: LineSegmenterBorrowed<'_>, text: I::Units) -> bool
+where
+    I::Units: Whole,
+{
+    has_parts(manner, SegmenterOf::<I>::breaks(&lines, text))
 }
 
 /// Wrapped lines are to be the text, where lines are by a machine.
@@ -207,16 +218,30 @@ pub fn check_wrapped(
 }
 
 fn has_wrapped_lines(wrapper: LineWrapper<'_>, text: &str, columns: usize) -> bool {
+    are_lines(&mut wrapper.wrap_str(text, columns), text)
+}
+
+fn are_lines(lines: &mut WrapIterator<'_, '_>, text: &str) -> bool {
     let mut rest = Some(text);
-    for line in wrapper.wrap_str(text, columns) {
+    for _turn in 0..u64::MAX {
+        let Some(line) = lines.next() else {
+            break;
+        };
         rest = rest_behind(line.text(), rest);
     }
     is_empty(rest)
 }
 
 fn has_wrapped_utf8(wrapper: LineWrapper<'_>, bytes: &[u8], columns: usize) -> bool {
+    are_utf8_lines(&mut wrapper.wrap_utf8(bytes, columns), bytes)
+}
+
+fn are_utf8_lines(lines: &mut WrapUtf8Iterator<'_, '_>, bytes: &[u8]) -> bool {
     let mut rest = Some(bytes);
-    for line in wrapper.wrap_utf8(bytes, columns) {
+    for _turn in 0..u64::MAX {
+        let Some(line) = lines.next() else {
+            break;
+        };
         rest = rest_behind(line.bytes(), rest);
     }
     is_empty(rest)

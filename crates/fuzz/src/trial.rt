@@ -12,6 +12,10 @@ use icu_segmenter::memo::{MemoBreakIterator, MemoError};
 use icu_segmenter::provider::DataError;
 use icu_segmenter::rule_segmenter_v2::CountedTransitions;
 use icu_segmenter::scaffold::Utf8;
+use icu_segmenter::{
+    GraphemeClusterSegmenterBorrowed, LineSegmenterBorrowed, SentenceSegmenterBorrowed,
+    WordSegmenterBorrowed,
+};
 use std::alloc::Global;
 
 /// Asks a segmenter with data of its own what `examine` asks of one over borrowed data.
@@ -209,19 +213,6 @@ type Memo<'data, 's> = Result<
     MemoError,
 >;
 
-fn memo<'data, 's>(
-    alloc: Global,
-    segmenter: SegmenterBorrowed<'data>,
-    text: &'s str,
-) -> Memo<'data, 's> {
-    match segmenter {
-        SegmenterBorrowed::Clusters(clusters) => clusters.segment_str(text).with_memo(alloc),
-        SegmenterBorrowed::Sentences(sentences) => sentences.segment_str(text).with_memo(alloc),
-        SegmenterBorrowed::Words(words) => words.segment_str(text).with_memo(alloc),
-        SegmenterBorrowed::Lines(lines) => lines.segment_str(text).with_memo(alloc),
-    }
-}
-
 // Whether there is a memo, which is to give the same boundaries.
 fn has_memo(
     alloc: Global,
@@ -229,7 +220,56 @@ fn has_memo(
     text: &str,
     found: &Found,
 ) -> Result<bool, Failure> {
-    match memo(alloc, segmenter, text) {
+    match segmenter {
+        SegmenterBorrowed::Clusters(clusters) => has_memo_of_clusters(alloc, clusters, text, found),
+        SegmenterBorrowed::Sentences(sentences) => {
+            has_memo_of_sentences(alloc, sentences, text, found)
+        }
+        SegmenterBorrowed::Words(words) => has_memo_of_words(alloc, words, text, found),
+        SegmenterBorrowed::Lines(lines) => has_memo_of_lines(alloc, lines, text, found),
+    }
+}
+
+// A function for each kind: one that has all four takes longer to prove.
+fn has_memo_of_clusters(
+    alloc: Global,
+    clusters: GraphemeClusterSegmenterBorrowed<'_>,
+    text: &str,
+    found: &Found,
+) -> Result<bool, Failure> {
+    check_memo(clusters.segment_str(text).with_memo(alloc), found)
+}
+
+fn has_memo_of_sentences(
+    alloc: Global,
+    sentences: SentenceSegmenterBorrowed<'_>,
+    text: &str,
+    found: &Found,
+) -> Result<bool, Failure> {
+    check_memo(sentences.segment_str(text).with_memo(alloc), found)
+}
+
+fn has_memo_of_words(
+    alloc: Global,
+    words: WordSegmenterBorrowed<'_>,
+    text: &str,
+    found: &Found,
+) -> Result<bool, Failure> {
+    check_memo(words.segment_str(text).with_memo(alloc), found)
+}
+
+fn has_memo_of_lines(
+    alloc: Global,
+    lines: LineSegmenterBorrowed<'_>,
+    text: &str,
+    found: &Found,
+) -> Result<bool, Failure> {
+    check_memo(lines.segment_str(text).with_memo(alloc), found)
+}
+
+// A memo, if there is one, is to give these boundaries. Says whether there is one.
+fn check_memo(memo: Memo<'_, '_>, found: &Found) -> Result<bool, Failure> {
+    match memo {
         Ok(mut memo) => {
             check(agrees(&mut memo, found), "a memo that doesn't agree")?;
             check(memo.next().is_none(), "a memo that goes on")?;

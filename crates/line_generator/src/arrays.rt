@@ -18,28 +18,32 @@ const INDENT: &str = "   ";
 
 /// The text of both arrays.
 pub(crate) fn arrays(alloc: Global, machine: &SegmenterStateMachine) -> Result<String, AllocError> {
-    let mut text = String::from_str(alloc, HEAD)?;
-    let states = machine.states().len();
-    text.push_str(
-        "\n/// What each state accepts; the first is the one that a segment begins in.\n",
-    )?;
-    write!(
-        text,
-        "#[rattlefmt::skip]\npub(crate) static STATES: [Entry; {states}] = [\n"
-    )?;
-    push_states(&mut text, machine.states())?;
-    let count = machine.transitions().len();
-    text.push_str(
-        "];\n\n/// A row for each symbol, in it what each state leads to; 255 is none.\n",
-    )?;
-    write!(
-        text,
-        "#[rattlefmt::skip]\npub(crate) static TRANSITIONS: [State; {count}] = [\n"
-    )?;
-    push_transitions(&mut text, machine)?;
-    text.push_str("];\n")?;
+    let mut text = String::new(alloc);
+    push_arrays(&mut text, machine)?;
     Ok(text)
 }
+
+fn push_arrays(text: &mut String, machine: &SegmenterStateMachine) -> Result<(), AllocError> {
+    text.push_str(HEAD)?;
+    let states = machine.states().len();
+    write!(text, "{HEAD_OF_STATES}: [Entry; {states}] = [\n")?;
+    push_states(text, machine.states())?;
+    let count = machine.transitions().len();
+    write!(text, "{HEAD_OF_TRANSITIONS}: [State; {count}] = [\n")?;
+    push_transitions(text, machine)?;
+    text.push_str("];\n")
+}
+
+const HEAD_OF_STATES: &str = "
+/// What each state accepts; the first is the one that a segment begins in.
+#[rattlefmt::skip]
+pub(crate) static STATES";
+
+const HEAD_OF_TRANSITIONS: &str = "];
+
+/// A row for each symbol, in it what each state leads to; 255 is none.
+#[rattlefmt::skip]
+pub(crate) static TRANSITIONS";
 
 /// Where a symbol leads from a state.
 pub(crate) fn next(machine: &SegmenterStateMachine, state: usize, symbol: usize) -> State {
@@ -87,15 +91,17 @@ fn push_row(
     machine: &SegmenterStateMachine,
     symbol: usize,
 ) -> Result<(), AllocError> {
-    let alloc = *text.allocator();
     text.push_str(INDENT)?;
     let mut width = INDENT.len();
     for state in 0..machine.states().len() {
-        let state = next(machine, state, symbol);
-        let item = format!(in alloc; "{state}")?;
-        width = push_item(text, width, item.as_str())?;
+        width = push_state(text, width, next(machine, state, symbol))?;
     }
     text.push_str("\n")
+}
+
+fn push_state(text: &mut String, width: usize, state: State) -> Result<usize, AllocError> {
+    let item = format!(in *text.allocator(); "{state}")?;
+    push_item(text, width, item.as_str())
 }
 
 // Writes an item after so many characters of a line, or on the next line. Returns how many characters the line has then.

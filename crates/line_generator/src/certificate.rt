@@ -5,8 +5,9 @@ use crate::page::{Page, push_words};
 use crate::plan::{push_plan, push_relation};
 use crate::rows::rules;
 use crate::rules::push_rules;
-use crate::tables::{PART, Table, push_dues, push_parts, push_reads};
+use crate::tables::{PART, Table, push_dues, push_parts};
 use seg_compile::compile::Certified;
+use seg_rules::certificate::Before;
 use std::alloc::{AllocError, Global};
 
 const HEAD: &str =
@@ -31,29 +32,41 @@ at before doubt older newest last status named =
 /// The text of the certificate.
 pub(crate) fn certificate(alloc: Global, lines: &Certified) -> Result<String, AllocError> {
     let mut page = Page::new(alloc);
-    let mut text = String::from_str(alloc, HEAD)?;
     push_body(alloc, lines, &mut page)?;
-    push_imports(alloc, &mut text)?;
-    text.push_str(REST_OF_HEAD)?;
-    push_flags(&mut text, &mut page.flags)?;
-    text.push_str(page.text.as_str())?;
+    let mut text = String::new(alloc);
+    push_all(alloc, &mut text, &mut page)?;
     Ok(text)
 }
 
+// Writes a page behind its imports and the flags that it names.
+fn push_all(alloc: Global, text: &mut String, page: &mut Page) -> Result<(), AllocError> {
+    text.push_str(HEAD)?;
+    push_imports(alloc, text)?;
+    text.push_str(REST_OF_HEAD)?;
+    push_flags(text, &mut page.flags)?;
+    text.push_str(page.text.as_str())
+}
+
 fn push_body(alloc: Global, lines: &Certified, page: &mut Page) -> Result<(), AllocError> {
-    let befores = lines.befores(alloc)?;
-    let parts = befores.len().div_ceil(PART);
     push_rules(page, rules())?;
-    push_parts(page, Table::Befores, befores.as_slice())?;
-    push_parts(page, Table::Moves, befores.as_slice())?;
-    push_parts(page, Table::Owes, befores.as_slice())?;
-    let dues = lines.dues(alloc)?;
-    push_dues(page, dues.as_slice())?;
-    push_reads(page, dues.as_slice())?;
-    push_plan(alloc, page, lines.machine())?;
-    let relation = lines.relation(alloc)?;
-    push_relation(page, relation.as_slice())?;
+    let parts = push_tables(page, lines.befores(alloc)?.as_slice())?;
+    push_scans(alloc, lines, page)?;
     push_claims(alloc, &mut page.text, parts)
+}
+
+// Writes what is said of all that may stand before places, and returns in how many parts.
+fn push_tables(page: &mut Page, befores: &[Before<'_>]) -> Result<usize, AllocError> {
+    push_parts(page, Table::Befores, befores)?;
+    push_parts(page, Table::Moves, befores)?;
+    push_parts(page, Table::Owes, befores)?;
+    Ok(befores.len().div_ceil(PART))
+}
+
+// Writes what may be owed to places, the machine, and what may be true within its scans.
+fn push_scans(alloc: Global, lines: &Certified, page: &mut Page) -> Result<(), AllocError> {
+    push_dues(page, lines.dues(alloc)?.as_slice())?;
+    push_plan(alloc, page, lines.machine())?;
+    push_relation(page, lines.relation(alloc)?.as_slice())
 }
 
 // Writes the imports of what the tests unfold.
@@ -72,13 +85,17 @@ use Rattle.seg_rules.specs.Check.{{Plan, Tables, no_before, same_before, verdict
 fn push_flags(text: &mut String, flags: &mut Vec<u32>) -> Result<(), AllocError> {
     flags.sort_unstable();
     for flags in flags.as_slice() {
-        text.push_str("abbrev live_")?;
-        push_words(text, *flags, "f", "t")?;
-        text.push_str(" : List Bool\nlive_")?;
-        push_words(text, *flags, "f", "t")?;
-        text.push_str(" = ")?;
-        push_words(text, *flags, "false ∷ ", "true ∷ ")?;
-        text.push_str("[]\n\n")?;
+        push_list(text, *flags)?;
     }
     Ok(())
+}
+
+fn push_list(text: &mut String, flags: u32) -> Result<(), AllocError> {
+    text.push_str("abbrev live_")?;
+    push_words(text, flags, "f", "t")?;
+    text.push_str(" : List Bool\nlive_")?;
+    push_words(text, flags, "f", "t")?;
+    text.push_str(" = ")?;
+    push_words(text, flags, "false ∷ ", "true ∷ ")?;
+    text.push_str("[]\n\n")
 }

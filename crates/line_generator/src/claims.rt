@@ -28,10 +28,13 @@ pub(crate) fn push_claims(
     parts: usize,
 ) -> Result<(), AllocError> {
     let tests = tests(alloc, parts)?;
+    push_claims_by(text, tests.as_str(), parts)
+}
+
+// Writes the claims, whose tests unfold these words.
+fn push_claims_by(text: &mut String, tests: &str, parts: usize) -> Result<(), AllocError> {
     text.push_str(RULES_ARE)?;
-    for part in 0..parts {
-        push_part_holds(text, tests.as_str(), part)?;
-    }
+    push_parts_hold(text, tests, parts)?;
     write!(
         text,
         "befores-hold : befores_hold numbered_rules tables {SYMBOLS} befores moves owes ≡ true
@@ -39,26 +42,38 @@ unfolding befores moves owes befores_hold
 befores-hold = "
     )?;
     push_nested(text, parts, ("befores-hold", "-", " _ _ _ "), "refl")?;
-    push_others(text, tests.as_str())
+    push_others(text, tests)
 }
 
 // What the tests unfold.
 fn tests(alloc: Global, parts: usize) -> Result<String, AllocError> {
-    let mut tests = String::from_str(alloc, "numbered_above numbered_below numbered_rules")?;
-    push_names(&mut tests, "befores", parts)?;
-    push_names(&mut tests, "moves", parts)?;
-    push_names(&mut tests, "owes", parts)?;
+    let mut tests = String::new(alloc);
+    push_tests(&mut tests, parts)?;
+    Ok(tests)
+}
+
+fn push_tests(tests: &mut String, parts: usize) -> Result<(), AllocError> {
+    tests.push_str("numbered_above numbered_below numbered_rules")?;
+    push_names(tests, "befores", parts)?;
+    push_names(tests, "moves", parts)?;
+    push_names(tests, "owes", parts)?;
     write!(
         tests,
         " befores moves owes dues reads tables {RULE_TESTS} {CHECK_TESTS}"
-    )?;
-    Ok(tests)
+    )
 }
 
 // Writes the names of the parts of a table.
 fn push_names(text: &mut String, name: &str, parts: usize) -> Result<(), AllocError> {
     for number in 0..parts {
         write!(text, " {name}_{number}")?;
+    }
+    Ok(())
+}
+
+fn push_parts_hold(text: &mut String, tests: &str, parts: usize) -> Result<(), AllocError> {
+    for part in 0..parts {
+        push_part_holds(text, tests, part)?;
     }
     Ok(())
 }

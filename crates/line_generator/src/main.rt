@@ -19,7 +19,9 @@ use certificate::certificate;
 use rows::{SYMBOLS, rules};
 use seg_compile::compile::{Certified, Characters, compile_certified};
 use seg_data::provider::ClassTable;
-use std::alloc::Global;
+use seg_machine::provider::SegmenterStateMachine;
+use seg_rules::certificate::Configuration;
+use std::alloc::{AllocError, Global};
 use std::env::{Env, FillError};
 use std::io::Write;
 use std::str;
@@ -49,10 +51,15 @@ fn word<'a>(rt: &HostRuntime, buffer: &'a mut [u8; LONGEST]) -> Option<&'a str> 
 // What a word asks for.
 fn text_of(alloc: Global, word: &str) -> Result<String> {
     let lines = lines(alloc)?;
+    text_about(alloc, &lines, word)
+}
+
+// What a word asks for of the machine of lines.
+fn text_about(alloc: Global, lines: &Certified, word: &str) -> Result<String> {
     match word {
         "arrays" => Ok(arrays(alloc, lines.machine())?),
-        "certificate" => Ok(certificate(alloc, &lines)?),
-        "sizes" => sizes(alloc, &lines),
+        "certificate" => Ok(certificate(alloc, lines)?),
+        "sizes" => sizes(alloc, lines),
         _ => bail!(USAGE),
     }
 }
@@ -67,17 +74,32 @@ fn lines(alloc: Global) -> Result<Certified> {
     Ok(compile_certified(alloc, rules(), SYMBOLS, characters)?)
 }
 
+// How many configurations there are in all.
+fn count(relation: &[&[Configuration]]) -> usize {
+    let mut count = 0_usize;
+    for configurations in relation {
+        count = count.saturating_add(configurations.len());
+    }
+    count
+}
+
 // How large the rules, the machine and its certificate are.
 fn sizes(alloc: Global, lines: &Certified) -> Result<String> {
-    let rows = rules().above.len().saturating_add(rules().below.len());
     let befores = lines.befores(alloc)?.len();
-    let states = lines.machine().states().len();
-    let lookaheads = lines.machine().num_lookaheads();
-    let mut configurations = 0_usize;
-    for group in lines.relation(alloc)?.as_slice() {
-        configurations = configurations.saturating_add(group.len());
-    }
-    Ok(format!(in alloc;
+    let configurations = count(lines.relation(alloc)?.as_slice());
+    Ok(shown_sizes(alloc, lines.machine(), befores, configurations)?)
+}
+
+fn shown_sizes(
+    alloc: Global,
+    machine: &SegmenterStateMachine,
+    befores: usize,
+    configurations: usize,
+) -> Result<String, AllocError> {
+    let rows = rules().above.len().saturating_add(rules().below.len());
+    let states = machine.states().len();
+    let lookaheads = machine.num_lookaheads();
+    format!(in alloc;
         "{rows} rows, {SYMBOLS} symbols, {befores} before a place, {states} states, {lookaheads} lookahead, {configurations} configurations\n"
-    )?)
+    )
 }

@@ -61,17 +61,25 @@ fn push_waits(page: &mut Page, waits: &[bool]) -> Result<(), AllocError> {
 
 // Of each state whether a scan comes there before anything was accepted.
 fn waits(alloc: Global, machine: &SegmenterStateMachine) -> Result<Vec<bool>, AllocError> {
-    let count = machine.states().len();
-    let mut waits = vec![in alloc; false; count]?;
-    let mut todo: Vec<State> = Vec::new(alloc);
+    let mut waits = vec![in alloc; false; machine.states().len()]?;
+    let mut todo = Vec::new(alloc);
+    wait_from_start(machine, &mut waits, &mut todo)?;
+    Ok(waits)
+}
+
+fn wait_from_start(
+    machine: &SegmenterStateMachine,
+    waits: &mut Vec<bool>,
+    todo: &mut Vec<State>,
+) -> Result<(), AllocError> {
     todo.push(SegmenterStateMachine::START_STATE)?;
-    for place in 0..=count {
+    for place in 0..=machine.states().len() {
         let Some(state) = todo.get(place).copied() else {
             break;
         };
-        wait(machine, state, &mut waits, &mut todo)?;
+        wait(machine, state, waits, todo)?;
     }
-    Ok(waits)
+    Ok(())
 }
 
 // Adds the states that go on from a state.

@@ -8,8 +8,10 @@ use std::alloc::AllocError;
 pub(crate) fn push_rules(page: &mut Page, rules: &Rules<'_>) -> Result<(), AllocError> {
     push_rows(page, "numbered_above", rules.above)?;
     push_rows(page, "numbered_below", rules.below)?;
-    page.push("unfoldable pub numbered_rules : RowRules\nnumbered_rules = record {\n")?;
-    page.push("  above = numbered_above;\n  below = numbered_below;\n")?;
+    push_fields(page, rules)
+}
+
+fn push_fields(page: &mut Page, rules: &Rules<'_>) -> Result<(), AllocError> {
     let Rules {
         has_marks,
         marks,
@@ -20,11 +22,18 @@ pub(crate) fn push_rules(page: &mut Page, rules: &Rules<'_>) -> Result<(), Alloc
     } = *rules;
     write!(
         page.text,
-        "  has_marks = {has_marks};\n  marks = {marks};\n  bare = {bare};\n"
-    )?;
-    write!(
-        page.text,
-        "  alone = {alone};\n  at_end = {at_end};\n}}\n\n"
+        "unfoldable pub numbered_rules : RowRules
+numbered_rules = record {{
+  above = numbered_above;
+  below = numbered_below;
+  has_marks = {has_marks};
+  marks = {marks};
+  bare = {bare};
+  alone = {alone};
+  at_end = {at_end};
+}}
+
+"
     )
 }
 

@@ -41,16 +41,17 @@ pub(crate) fn push_parts(
     table: Table,
     befores: &[Before<'_>],
 ) -> Result<(), AllocError> {
-    let (name, kind) = table.words();
     let mut parts = 0_usize;
     for part in befores.chunks(PART) {
-        write!(
-            page.text,
-            "unfoldable pub {name}_{parts} : List ({kind}) → List ({kind})\n{name}_{parts} rest =\n"
-        )?;
-        push_part(page, table, part)?;
+        push_part(page, table, parts, part)?;
         parts = parts.saturating_add(1);
     }
+    push_whole(page, table, parts)
+}
+
+// Writes the table of so many parts.
+fn push_whole(page: &mut Page, table: Table, parts: usize) -> Result<(), AllocError> {
+    let (name, kind) = table.words();
     write!(
         page.text,
         "unfoldable pub {name} : List ({kind})\n{name} = "
@@ -59,18 +60,33 @@ pub(crate) fn push_parts(
     page.push("\n\n")
 }
 
-fn push_part(page: &mut Page, table: Table, part: &[Before<'_>]) -> Result<(), AllocError> {
+// Writes the part of this number.
+fn push_part(
+    page: &mut Page,
+    table: Table,
+    number: usize,
+    part: &[Before<'_>],
+) -> Result<(), AllocError> {
+    let (name, kind) = table.words();
+    write!(
+        page.text,
+        "unfoldable pub {name}_{number} : List ({kind}) → List ({kind})\n{name}_{number} rest =\n"
+    )?;
     for before in part {
-        page.push("    ")?;
-        let owes = before.owes;
-        match table {
-            Table::Befores => push_before(page, before)?,
-            Table::Moves => push_moves(page, before.moves)?,
-            Table::Owes => write!(page.text, "{owes}")?,
-        }
-        page.push(" ∷\n")?;
+        push_item(page, table, before)?;
     }
     page.push("    rest\n\n")
+}
+
+fn push_item(page: &mut Page, table: Table, before: &Before<'_>) -> Result<(), AllocError> {
+    page.push("    ")?;
+    let owes = before.owes;
+    match table {
+        Table::Befores => push_before(page, before)?,
+        Table::Moves => push_moves(page, before.moves)?,
+        Table::Owes => write!(page.text, "{owes}")?,
+    }
+    page.push(" ∷\n")
 }
 
 /// Writes numbered functions applied to one another, and the last one to a word: of each its name, a sign, its number, and what follows.
@@ -80,17 +96,26 @@ pub(crate) fn push_nested(
     words: (&str, &str, &str),
     last: &str,
 ) -> Result<(), AllocError> {
-    let alloc = *text.allocator();
-    let (name, sign, after) = words;
-    let mut inner = String::from_str(alloc, last)?;
-    for number in (0..parts).rev() {
-        inner = if number.saturating_add(1) == parts {
-            format!(in alloc; "{name}{sign}{number}{after}{inner}")?
-        } else {
-            format!(in alloc; "{name}{sign}{number}{after}({inner})")?
-        };
+    push_opened(text, parts, words)?;
+    text.push_str(last)?;
+    for _ in 1..parts {
+        text.push(')')?;
     }
-    text.push_str(inner.as_str())
+    Ok(())
+}
+
+// Writes the functions, with a parenthesis before each but the first.
+fn push_opened(
+    text: &mut String,
+    parts: usize,
+    words: (&str, &str, &str),
+) -> Result<(), AllocError> {
+    let (name, sign, after) = words;
+    for number in 0..parts {
+        let opening = if number > 0 { "(" } else { "" };
+        write!(text, "{opening}{name}{sign}{number}{after}")?;
+    }
+    Ok(())
 }
 
 fn push_moves(page: &mut Page, moves: &[u16]) -> Result<(), AllocError> {
@@ -119,32 +144,41 @@ fn push_lives(page: &mut Page, rows: &[Row<'_>], lives: &[u32]) -> Result<(), Al
     page.push("[]")
 }
 
-/// Writes what may be owed to places.
+/// Writes what may be owed to places, and what is owed then after each symbol.
 pub(crate) fn push_dues(page: &mut Page, dues: &[Due<'_>]) -> Result<(), AllocError> {
     page.define("dues", "List Due")?;
     for due in dues {
-        page.push("    DueOf (")?;
-        push_entries(page, due.entries)?;
-        let otherwise = due.otherwise;
-        write!(page.text, "[]) {otherwise} ∷\n")?;
+        push_due(page, due)?;
     }
-    page.push("    []\n\n")
+    page.push("    []\n\n")?;
+    push_reads(page, dues)
+}
+
+fn push_due(page: &mut Page, due: &Due<'_>) -> Result<(), AllocError> {
+    page.push("    DueOf (")?;
+    push_entries(page, due.entries)?;
+    let otherwise = due.otherwise;
+    write!(page.text, "[]) {otherwise} ∷\n")
 }
 
 fn push_entries(page: &mut Page, entries: &[Entry]) -> Result<(), AllocError> {
     for entry in entries {
-        match entry {
-            Entry::Marks => page.push("Marks")?,
-            Entry::Above(number, live) => push_entry(page, false, *number, *live)?,
-            Entry::Below(number, live) => push_entry(page, true, *number, *live)?,
-        }
+        push_entry(page, *entry)?;
         page.push(" ∷ ")?;
     }
     Ok(())
 }
 
+fn push_entry(page: &mut Page, entry: Entry) -> Result<(), AllocError> {
+    match entry {
+        Entry::Marks => page.push("Marks"),
+        Entry::Above(number, live) => push_owed(page, false, number, live),
+        Entry::Below(number, live) => push_owed(page, true, number, live),
+    }
+}
+
 // Writes the right pattern of a row above that of marks, or below, as far as it is read.
-fn push_entry(page: &mut Page, is_below: bool, number: u8, live: u32) -> Result<(), AllocError> {
+fn push_owed(page: &mut Page, is_below: bool, number: u8, live: u32) -> Result<(), AllocError> {
     let rows = if is_below {
         rules().below
     } else {
@@ -161,19 +195,28 @@ fn push_entry(page: &mut Page, is_below: bool, number: u8, live: u32) -> Result<
     write!(page.text, " {verdict} {is_below}")
 }
 
-/// Writes what is owed after each symbol, of the verdicts and of what may be owed.
-pub(crate) fn push_reads(page: &mut Page, dues: &[Due<'_>]) -> Result<(), AllocError> {
+// Writes what is owed after each symbol, of the verdicts and of what may be owed.
+fn push_reads(page: &mut Page, dues: &[Due<'_>]) -> Result<(), AllocError> {
     page.define("reads", "List (List (ℕ × ℕ))")?;
-    for verdict in 0..VERDICTS {
-        push_row(page, &[(verdict, verdict); SYMBOLS + 1])?;
-    }
+    push_verdicts(page)?;
     for due in dues {
         push_row(page, due.reads)?;
     }
-    page.push("    []\n\nunfoldable pub tables : Tables\n")?;
-    page.push(
-        "tables = record { befores = befores; moves = moves; owes = owes; dues = dues; reads = reads }\n\n",
-    )
+    page.push(TABLES)
+}
+
+const TABLES: &str = "    []
+
+unfoldable pub tables : Tables
+tables = record { befores = befores; moves = moves; owes = owes; dues = dues; reads = reads }
+
+";
+
+fn push_verdicts(page: &mut Page) -> Result<(), AllocError> {
+    for verdict in 0..VERDICTS {
+        push_row(page, &[(verdict, verdict); SYMBOLS + 1])?;
+    }
+    Ok(())
 }
 
 fn push_row(page: &mut Page, reads: &[(u8, u8)]) -> Result<(), AllocError> {

@@ -26,6 +26,11 @@ pub fn segmenter_of(alloc: Global, engine: Engine, source: Data) -> Result<Segme
     }
 }
 
+// Two data, or why the first that lacks is not there.
+fn both<A: Drop, B: Drop>(first: Result<A>, second: Result<B>) -> Result<(A, B)> {
+    Ok((first?, second?))
+}
+
 fn clusters_by_table(alloc: Global, source: Data) -> Result<Segmenter> {
     let table = cluster_table(alloc, source)?;
     Ok(Segmenter::Clusters(GraphemeClusterSegmenter::try_new(table)?))
@@ -49,41 +54,36 @@ fn sentences_by_machine(alloc: Global, source: Data) -> Result<Segmenter> {
 }
 
 fn words_by_table(alloc: Global, source: Data) -> Result<Segmenter> {
-    let table = word_table(alloc, source)?;
-    let clusters = cluster_table(alloc, source)?;
+    let (table, clusters) = both(word_table(alloc, source), cluster_table(alloc, source))?;
     let options = WordBreakOptions::default();
     let segmenter = WordSegmenter::try_new_for_non_complex_scripts(table, None, clusters, options)?;
     Ok(Segmenter::Words(segmenter))
 }
 
 fn words_by_machine(alloc: Global, source: Data) -> Result<Segmenter> {
-    let machine = word_machine(alloc, source)?;
-    let clusters = cluster_table(alloc, source)?;
+    let (machine, clusters) = both(word_machine(alloc, source), cluster_table(alloc, source))?;
     let options = WordBreakOptions::default();
     let segmenter = WordSegmenter::try_new_neo_for_non_complex_scripts(machine, clusters, options)?;
     Ok(Segmenter::Words(segmenter))
 }
 
 fn lines_by_table(alloc: Global, source: Data) -> Result<Segmenter> {
-    let table = line_table(alloc, source)?;
-    let clusters = cluster_table(alloc, source)?;
+    let (table, clusters) = both(line_table(alloc, source), cluster_table(alloc, source))?;
     let options = LineBreakOptions::default();
     let segmenter = LineSegmenter::try_new_for_non_complex_scripts(table, clusters, options)?;
     Ok(Segmenter::Lines(segmenter))
 }
 
 fn lines_by_turns(alloc: Global, source: Data) -> Result<Segmenter> {
-    let table = line_17_table(alloc, source)?;
-    let clusters = cluster_table(alloc, source)?;
+    let (table, clusters) = both(line_17_table(alloc, source), cluster_table(alloc, source))?;
     let options = LineBreakOptions::default();
     let segmenter = LineSegmenter::try_new_17_for_non_complex_scripts(table, clusters, options)?;
     Ok(Segmenter::Lines(segmenter))
 }
 
 fn lines_by_machine(alloc: Global, source: Data) -> Result<Segmenter> {
-    let machine = line_machine(alloc, source)?;
-    let clusters = cluster_machine(alloc, source)?;
-    let tailorings = line_tailorings(alloc, source)?;
+    let machines = both(line_machine(alloc, source), cluster_machine(alloc, source));
+    let ((machine, clusters), tailorings) = both(machines, line_tailorings(alloc, source))?;
     let options = LineBreakOptions::default();
     let segmenter = LineSegmenter::try_new_neo_for_non_complex_scripts(
         machine, tailorings, clusters, options,

@@ -87,13 +87,22 @@ fn repeated(alloc: Global, bytes: &[u8]) -> Result<Vec<u8>, AllocError>
 // The engines that the words name, each with both data.
 fn trials_of<R: AllocGlobal + Clock>(rt: &R, engines: &[&str]) -> Result<Vec<Trial>> {
     let mut trials = Vec::new(rt.alloc());
+    add_trials(rt, engines, &mut trials)?;
+    Ok(trials)
+}
+
+fn add_trials<R: AllocGlobal + Clock>(
+    rt: &R,
+    engines: &[&str],
+    trials: &mut Vec<Trial>,
+) -> Result<()> {
     for engine in &ENGINES {
         if is_chosen(engines, *engine) {
-            add_trial(rt, *engine, Data::Small, &mut trials)?;
-            add_trial(rt, *engine, Data::Real, &mut trials)?;
+            add_trial(rt, *engine, Data::Small, trials)?;
+            add_trial(rt, *engine, Data::Real, trials)?;
         }
     }
-    Ok(trials)
+    Ok(())
 }
 
 fn add_trial<R: AllocGlobal + Clock>(
@@ -114,10 +123,20 @@ fn measure_in<R: AllocGlobal + Clock>(
     bytes: &[u8],
 ) -> Result<()> {
     let text = String::from_utf8_lossy(rt.alloc(), bytes)?;
+    measure_by(rt, trials, encoding, bytes, text.as_str())
+}
+
+fn measure_by<R: AllocGlobal + Clock>(
+    rt: &R,
+    trials: &mut [Trial],
+    encoding: &str,
+    bytes: &[u8],
+    text: &str,
+) -> Result<()> {
     match encoding {
-        "str" => measure(rt, trials, Text::Str(text.as_str())),
+        "str" => measure(rt, trials, Text::Str(text)),
         "latin1" => measure(rt, trials, Text::Latin1(bytes)),
-        "utf16" => measure_in_utf16(rt, trials, text.as_str()),
+        "utf16" => measure_in_utf16(rt, trials, text),
         _ => measure(rt, trials, Text::Utf8(bytes)),
     }
 }

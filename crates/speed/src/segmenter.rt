@@ -2,7 +2,11 @@
 
 use crate::tally::{Tally, tally_of};
 use bench::segmenter::{Segmenter, Text};
-use icu_segmenter::memo::MemoError;
+use icu_segmenter::indices::{Latin1Indices, StrCharIndices, Utf8CharIndices, Utf16Indices};
+use icu_segmenter::memo::{MemoBreakIterator, MemoError};
+use icu_segmenter::rule_segmenter_v2::CountedTransitions;
+use icu_segmenter::scaffold::PotentiallyIllFormedUtf8;
+use icu_segmenter::segments::Source;
 use icu_segmenter::{
     GraphemeClusterSegmenterBorrowed, LineSegmenterBorrowed, SentenceSegmenterBorrowed,
     WordSegmenterBorrowed,
@@ -12,6 +16,15 @@ use std::alloc::Global;
 /// The boundaries of a text, counted and added up.
 #[inline(never)]
 pub fn tally(segmenter: &Segmenter, text: Text<'_>) -> Tally {
+    match text {
+        Text::Str(text) => tally_in(segmenter, StrCharIndices::new(text)),
+        Text::Utf8(text) => tally_in(segmenter, Utf8CharIndices::new(text)),
+        Text::Latin1(text) => tally_in(segmenter, Latin1Indices::new(text)),
+        Text::Utf16(text) => tally_in(segmenter, Utf16Indices::new(text)),
+    }
+}
+
+fn tally_in<I: Source>(segmenter: &Segmenter, text: I) -> Tally {
     match segmenter {
         Segmenter::Clusters(clusters) => clusters_in(clusters.as_borrowed(), text),
         Segmenter::Sentences(sentences) => sentences_in(sentences.as_borrowed(), text),
@@ -20,40 +33,21 @@ pub fn tally(segmenter: &Segmenter, text: Text<'_>) -> Tally {
     }
 }
 
-fn clusters_in(clusters: GraphemeClusterSegmenterBorrowed<'_>, text: Text<'_>) -> Tally {
-    match text {
-        Text::Str(text) => tally_of(clusters.segment_str(text)),
-        Text::Utf8(text) => tally_of(clusters.segment_utf8(text)),
-        Text::Latin1(text) => tally_of(clusters.segment_latin1(text)),
-        Text::Utf16(text) => tally_of(clusters.segment_utf16(text)),
-    }
+// A function for each kind, and one for all encodings: so the proof is short.
+fn clusters_in<I: Source>(clusters: GraphemeClusterSegmenterBorrowed<'_>, text: I) -> Tally {
+    tally_of(clusters.segment(text))
 }
 
-fn sentences_in(sentences: SentenceSegmenterBorrowed<'_>, text: Text<'_>) -> Tally {
-    match text {
-        Text::Str(text) => tally_of(sentences.segment_str(text)),
-        Text::Utf8(text) => tally_of(sentences.segment_utf8(text)),
-        Text::Latin1(text) => tally_of(sentences.segment_latin1(text)),
-        Text::Utf16(text) => tally_of(sentences.segment_utf16(text)),
-    }
+fn sentences_in<I: Source>(sentences: SentenceSegmenterBorrowed<'_>, text: I) -> Tally {
+    tally_of(sentences.segment(text))
 }
 
-fn words_in(words: WordSegmenterBorrowed<'_>, text: Text<'_>) -> Tally {
-    match text {
-        Text::Str(text) => tally_of(words.segment_str(text)),
-        Text::Utf8(text) => tally_of(words.segment_utf8(text)),
-        Text::Latin1(text) => tally_of(words.segment_latin1(text)),
-        Text::Utf16(text) => tally_of(words.segment_utf16(text)),
-    }
+fn words_in<I: Source>(words: WordSegmenterBorrowed<'_>, text: I) -> Tally {
+    tally_of(words.segment(text))
 }
 
-fn lines_in(lines: LineSegmenterBorrowed<'_>, text: Text<'_>) -> Tally {
-    match text {
-        Text::Str(text) => tally_of(lines.segment_str(text)),
-        Text::Utf8(text) => tally_of(lines.segment_utf8(text)),
-        Text::Latin1(text) => tally_of(lines.segment_latin1(text)),
-        Text::Utf16(text) => tally_of(lines.segment_utf16(text)),
-    }
+fn lines_in<I: Source>(lines: LineSegmenterBorrowed<'_>, text: I) -> Tally {
+    tally_of(lines.segment(text))
 }
 
 /// The boundaries of a text in possibly ill-formed UTF-8 by the memoised engine, whose table of cells is made anew. The errors are those of
@@ -74,7 +68,7 @@ fn memo_of_clusters(
     clusters: GraphemeClusterSegmenterBorrowed<'_>,
     text: &[u8],
 ) -> Result<Tally, MemoError> {
-    Ok(tally_of(clusters.segment_utf8(text).with_memo(alloc)?))
+    tally_of_memo(clusters.segment_utf8(text).with_memo(alloc))
 }
 
 fn memo_of_sentences(
@@ -82,7 +76,7 @@ fn memo_of_sentences(
     sentences: SentenceSegmenterBorrowed<'_>,
     text: &[u8],
 ) -> Result<Tally, MemoError> {
-    Ok(tally_of(sentences.segment_utf8(text).with_memo(alloc)?))
+    tally_of_memo(sentences.segment_utf8(text).with_memo(alloc))
 }
 
 fn memo_of_words(
@@ -90,7 +84,7 @@ fn memo_of_words(
     words: WordSegmenterBorrowed<'_>,
     text: &[u8],
 ) -> Result<Tally, MemoError> {
-    Ok(tally_of(words.segment_utf8(text).with_memo(alloc)?))
+    tally_of_memo(words.segment_utf8(text).with_memo(alloc))
 }
 
 fn memo_of_lines(
@@ -98,5 +92,15 @@ fn memo_of_lines(
     lines: LineSegmenterBorrowed<'_>,
     text: &[u8],
 ) -> Result<Tally, MemoError> {
-    Ok(tally_of(lines.segment_utf8(text).with_memo(alloc)?))
+    tally_of_memo(lines.segment_utf8(text).with_memo(alloc))
+}
+
+// The memo of a text in UTF-8, or why there is none.
+type Memo<'data, 's> = Result<
+    MemoBreakIterator<'data, 's, PotentiallyIllFormedUtf8, CountedTransitions<'data>>,
+    MemoError,
+>;
+
+fn tally_of_memo(made: Memo<'_, '_>) -> Result<Tally, MemoError> {
+    Ok(tally_of(made?))
 }
