@@ -3,7 +3,7 @@
 use crate::engine::Engine;
 use crate::segmenter::Segmenter;
 use anyhow::{Context, Result};
-use std::alloc::Global;
+use std::alloc::{AllocError, Global};
 
 /// What is compared, and the characters of texts.
 #[derive(Clone, Copy)]
@@ -84,10 +84,10 @@ fn differences_of(alloc: Global, engine: Engine, characters: &[char]) -> Result<
 // What is printed of the shortest text that differs.
 fn written(alloc: Global, characters: &[char]) -> Result<String> {
     let mut found = String::new(alloc);
-    for character in characters.iter() {
+    for character in characters {
         let sign = if found.is_empty() { ", as" } else { "" };
         let code_point = u32::from(*character);
-        found.push_str(format!(in alloc; "{sign} {code_point:04X}")?.as_str())?;
+        write!(found, "{sign} {code_point:04X}")?;
     }
     Ok(found)
 }
@@ -100,11 +100,16 @@ impl Comparison<'_> {
             differ: 0,
             shortest: Vec::new(alloc),
         };
-        for first in self.characters.iter() {
-            self.add(alloc, &[*first], &mut found)?;
-            self.add_after(alloc, *first, &mut found)?;
-        }
+        self.add_all(alloc, &mut found)?;
         Ok(found)
+    }
+
+    fn add_all(&self, alloc: Global, found: &mut Differences) -> Result<()> {
+        for first in self.characters.iter() {
+            self.add(alloc, &[*first], found)?;
+            self.add_after(alloc, *first, found)?;
+        }
+        Ok(())
     }
 
     // Adds the texts of two and three that begin with this one.
@@ -144,12 +149,21 @@ impl Comparison<'_> {
 
     // Whether the text has other boundaries by the table than by the machine.
     fn differs(&self, alloc: Global, characters: &[char]) -> Result<bool> {
-        let mut text = String::new(alloc);
-        for character in characters.iter() {
-            text.push(*character)?;
-        }
-        let by_table = self.table.places_in_str(alloc, text.as_str())?;
-        let by_machine = self.machine.places_in_str(alloc, text.as_str())?;
+        let text = text_of(alloc, characters)?;
+        Ok(self.differs_in(alloc, text.as_str())?)
+    }
+
+    fn differs_in(&self, alloc: Global, text: &str) -> Result<bool, AllocError> {
+        let by_table = self.table.places_in_str(alloc, text)?;
+        let by_machine = self.machine.places_in_str(alloc, text)?;
         Ok(by_table != by_machine)
     }
+}
+
+fn text_of(alloc: Global, characters: &[char]) -> Result<String, AllocError> {
+    let mut text = String::new(alloc);
+    for character in characters {
+        text.push(*character)?;
+    }
+    Ok(text)
 }

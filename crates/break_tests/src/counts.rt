@@ -39,15 +39,28 @@ impl Counts {
 pub fn counts_of(rt: &HostRuntime, segmenter: &Segmenter, text: &str) -> Result<Counts> {
     let mut counts = Counts::default();
     for line in text.lines() {
-        if let Some(sample) = sample_of(rt.alloc(), line)? {
-            let is_passed = is_passed(rt.alloc(), segmenter, &sample)?;
-            counts.add(is_passed);
-            if !is_passed {
-                println!(rt; "not passed: {line}")?;
-            }
+        if let Some(is_passed) = is_line_passed(rt.alloc(), segmenter, line)? {
+            count(rt, &mut counts, line, is_passed)?;
         }
     }
     Ok(counts)
+}
+
+// Counts a line, and prints it if it isn't passed.
+fn count(rt: &HostRuntime, counts: &mut Counts, line: &str, is_passed: bool) -> Result<()> {
+    counts.add(is_passed);
+    if !is_passed {
+        println!(rt; "not passed: {line}")?;
+    }
+    Ok(())
+}
+
+// Whether the sample of a line is passed; none where it has no sample.
+fn is_line_passed(alloc: Global, segmenter: &Segmenter, line: &str) -> Result<Option<bool>> {
+    match sample_of(alloc, line)? {
+        Some(sample) => Ok(Some(is_passed(alloc, segmenter, &sample)?)),
+        None => Ok(None),
+    }
 }
 
 /// Counts the rows of lines with options: each has its options, a semicolon, and a sample. The errors are those of `counts_of`, and

@@ -2,11 +2,11 @@
 
 use crate::segmenter::Segmenter;
 use anyhow::Result;
-use icu_segmenter::options::{LineBreakOptions, SentenceBreakOptions, WordBreakOptions};
-use icu_segmenter::{GraphemeClusterSegmenter, LineSegmenter, SentenceSegmenter, WordSegmenter};
+use icu_segmenter::WordSegmenter;
+use icu_segmenter::options::{LineBreakOptions, WordBreakOptions};
+use icu_segmenter::provider::DataError;
 use icu_segmenter_data::{
-    cluster_table, grapheme_segmenter, line_17_table, line_segmenter, line_table,
-    sentence_segmenter, sentence_table, word_segmenter, word_table,
+    classic, cluster_table, grapheme_segmenter, line_segmenter, sentence_segmenter, word_segmenter,
 };
 use icu_segmenter_uax29::word_machine;
 use std::alloc::Global;
@@ -101,60 +101,27 @@ impl Engine {
 
     /// The segmenter with its data. The errors are out of memory, and data that are rejected.
     pub fn segmenter(self, alloc: Global) -> Result<Segmenter> {
-        match self {
-            Engine::ClusterTable => cluster_table_segmenter(alloc),
-            Engine::WordTable => word_table_segmenter(alloc),
-            Engine::SentenceTable => sentence_table_segmenter(alloc),
-            Engine::LineTable => line_table_segmenter(alloc),
-            Engine::LineTurns => line_17_segmenter(alloc),
-            Engine::ProvedClusters => Ok(Segmenter::Clusters(grapheme_segmenter(alloc)?)),
-            Engine::ProvedWords => plain_word_segmenter(alloc),
-            Engine::TypedWords => Ok(Segmenter::Words(word_segmenter(alloc)?)),
-            Engine::ProvedSentences => Ok(Segmenter::Sentences(sentence_segmenter(alloc)?)),
-            Engine::ProvedLines => {
-                let options = LineBreakOptions::default();
-                Ok(Segmenter::Lines(line_segmenter(alloc, options)?))
+        let options = LineBreakOptions::default();
+        Ok(match self {
+            Engine::ClusterTable => Segmenter::Clusters(classic::grapheme_segmenter(alloc)?),
+            Engine::WordTable => Segmenter::Words(classic::word_segmenter(alloc)?),
+            Engine::SentenceTable => Segmenter::Sentences(classic::sentence_segmenter(alloc)?),
+            Engine::LineTable => Segmenter::LinesByTable(classic::line_segmenter(alloc, options)?),
+            Engine::LineTurns => {
+                Segmenter::LinesByTable(classic::line_17_segmenter(alloc, options)?)
             }
-        }
+            Engine::ProvedClusters => Segmenter::Clusters(grapheme_segmenter(alloc)?),
+            Engine::ProvedWords => Segmenter::Words(plain_word_segmenter(alloc)?),
+            Engine::TypedWords => Segmenter::Words(word_segmenter(alloc)?),
+            Engine::ProvedSentences => Segmenter::Sentences(sentence_segmenter(alloc)?),
+            Engine::ProvedLines => Segmenter::Lines(line_segmenter(alloc, options)?),
+        })
     }
 }
 
-fn cluster_table_segmenter(alloc: Global) -> Result<Segmenter> {
-    let segmenter = GraphemeClusterSegmenter::try_new(cluster_table(alloc)?)?;
-    Ok(Segmenter::Clusters(segmenter))
-}
-
-fn word_table_segmenter(alloc: Global) -> Result<Segmenter> {
-    let (table, clusters) = (word_table(alloc)?, cluster_table(alloc)?);
-    let options = WordBreakOptions::default();
-    let segmenter = WordSegmenter::try_new_for_non_complex_scripts(table, None, clusters, options)?;
-    Ok(Segmenter::Words(segmenter))
-}
-
 // Words by the machine that gives them no types.
-fn plain_word_segmenter(alloc: Global) -> Result<Segmenter> {
+fn plain_word_segmenter(alloc: Global) -> Result<WordSegmenter, DataError> {
     let (machine, clusters) = (word_machine(alloc)?, cluster_table(alloc)?);
     let options = WordBreakOptions::default();
-    let segmenter = WordSegmenter::try_new_neo_for_non_complex_scripts(machine, clusters, options)?;
-    Ok(Segmenter::Words(segmenter))
-}
-
-fn sentence_table_segmenter(alloc: Global) -> Result<Segmenter> {
-    let options = SentenceBreakOptions::default();
-    let segmenter = SentenceSegmenter::try_new(sentence_table(alloc)?, None, options)?;
-    Ok(Segmenter::Sentences(segmenter))
-}
-
-fn line_table_segmenter(alloc: Global) -> Result<Segmenter> {
-    let (table, clusters) = (line_table(alloc)?, cluster_table(alloc)?);
-    let options = LineBreakOptions::default();
-    let segmenter = LineSegmenter::try_new_for_non_complex_scripts(table, clusters, options)?;
-    Ok(Segmenter::LinesByTable(segmenter))
-}
-
-fn line_17_segmenter(alloc: Global) -> Result<Segmenter> {
-    let (table, clusters) = (line_17_table(alloc)?, cluster_table(alloc)?);
-    let options = LineBreakOptions::default();
-    let segmenter = LineSegmenter::try_new_17_for_non_complex_scripts(table, clusters, options)?;
-    Ok(Segmenter::LinesByTable(segmenter))
+    WordSegmenter::try_new_neo_for_non_complex_scripts(machine, clusters, options)
 }

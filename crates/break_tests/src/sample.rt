@@ -36,17 +36,8 @@ const MANDATORY: [&str; 5] = ["[0.3]", "[4.0]", "[5.02]", "[5.03]", "[5.04]"];
 /// The sample of a line, which has ÷ and × and between them code points in hexadecimal digits, and in a comment the number
 /// of the rule for each mark; ! is a mandatory boundary. None for a line that is empty or a comment alone.
 pub fn sample_of(alloc: Global, line: &str) -> Result<Option<Sample>> {
-    let (marks, comment) = line.split_once('#').unwrap_or((line, ""));
-    let mut rules = comment
-        .split_whitespace()
-        .filter(|word| word.starts_with('['));
     let mut sample = empty_sample(alloc);
-    for word in marks.split_whitespace() {
-        match word {
-            "÷" | "×" | "!" => sample.add_mark(word, rules.next())?,
-            _ => sample.add_character(word)?,
-        }
-    }
+    sample.add_line(line)?;
     if sample.text.is_empty() {
         return Ok(None);
     }
@@ -64,6 +55,21 @@ fn empty_sample(alloc: Global) -> Sample {
 }
 
 impl Sample {
+    // The marks and the code points of a line.
+    fn add_line(&mut self, line: &str) -> Result<()> {
+        let (marks, comment) = line.split_once('#').unwrap_or((line, ""));
+        let mut rules = comment
+            .split_whitespace()
+            .filter(|word| word.starts_with('['));
+        for word in marks.split_whitespace() {
+            match word {
+                "÷" | "×" | "!" => self.add_mark(word, rules.next())?,
+                _ => self.add_character(word)?,
+            }
+        }
+        Ok(())
+    }
+
     // The mark after what is there, by this rule.
     fn add_mark(&mut self, mark: &str, rule: Option<&str>) -> Result<()> {
         let (text_len, unit_len) = (self.text.len(), self.units.len());

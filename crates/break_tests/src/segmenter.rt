@@ -54,8 +54,7 @@ impl Segmenter {
             Segmenter::Sentences(sentences) => {
                 sentences.as_borrowed().segment_str(text).collect(alloc)
             }
-            Segmenter::Lines(lines) => lines.as_borrowed().segment_str(text).collect(alloc),
-            Segmenter::LinesByTable(lines) => {
+            Segmenter::Lines(lines) | Segmenter::LinesByTable(lines) => {
                 lines.as_borrowed().segment_str(text).collect(alloc)
             }
         }
@@ -73,8 +72,7 @@ impl Segmenter {
             Segmenter::Sentences(sentences) => {
                 sentences.as_borrowed().segment_utf8(text).collect(alloc)
             }
-            Segmenter::Lines(lines) => lines.as_borrowed().segment_utf8(text).collect(alloc),
-            Segmenter::LinesByTable(lines) => {
+            Segmenter::Lines(lines) | Segmenter::LinesByTable(lines) => {
                 lines.as_borrowed().segment_utf8(text).collect(alloc)
             }
         }
@@ -92,8 +90,7 @@ impl Segmenter {
             Segmenter::Sentences(sentences) => {
                 sentences.as_borrowed().segment_utf16(text).collect(alloc)
             }
-            Segmenter::Lines(lines) => lines.as_borrowed().segment_utf16(text).collect(alloc),
-            Segmenter::LinesByTable(lines) => {
+            Segmenter::Lines(lines) | Segmenter::LinesByTable(lines) => {
                 lines.as_borrowed().segment_utf16(text).collect(alloc)
             }
         }

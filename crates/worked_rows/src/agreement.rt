@@ -50,16 +50,34 @@ fn agrees(
     text: &str,
     found: &[(usize, char)],
 ) -> Result<bool, AllocError> {
-    let bytes: Vec<usize> = Utf8CharIndices::new(text.as_bytes())
-        .map(|item| item.0)
-        .collect(alloc)?;
-    let expected = ordinals(alloc, found, bytes.as_slice())?;
-    let in_utf8 = segmenter.boundaries(alloc, Text::Utf8(text.as_bytes()))?;
+    let expected = ordinals_in_bytes(alloc, text.as_bytes(), found)?;
     Ok(
-        in_utf8.as_slice() == found
+        agrees_in_utf8(alloc, segmenter, text.as_bytes(), found)?
             && agrees_in_utf16(alloc, segmenter, text, expected.as_slice())?
             && agrees_in_latin1(alloc, segmenter, text, expected.as_slice())?,
     )
+}
+
+// The ordinals of boundaries, in code points.
+fn ordinals_in_bytes(
+    alloc: Global,
+    bytes: &[u8],
+    found: &[(usize, char)],
+) -> Result<Found, AllocError> {
+    let places: Vec<usize> = Utf8CharIndices::new(bytes)
+        .map(|item| item.0)
+        .collect(alloc)?;
+    ordinals(alloc, found, places.as_slice())
+}
+
+fn agrees_in_utf8(
+    alloc: Global,
+    segmenter: SegmenterBorrowed<'_>,
+    bytes: &[u8],
+    expected: &[(usize, char)],
+) -> Result<bool, AllocError> {
+    let found = segmenter.boundaries(alloc, Text::Utf8(bytes))?;
+    Ok(found.as_slice() == expected)
 }
 
 fn agrees_in_utf16(

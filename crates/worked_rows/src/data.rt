@@ -50,23 +50,27 @@ fn machine_like(
     row: Row<'_>,
     sample: Option<&SegmenterStateMachine>,
 ) -> Result<SegmenterStateMachine> {
-    let states = states_in(alloc, row, sample)?;
-    let moves = moves_in(alloc, row, sample, states.len())?;
-    machine_with(alloc, row, sample, states, moves)
+    let tables = both(map_in(alloc, row, sample), symbols_in(alloc, row, sample));
+    let rest = both(machine_numbers(row), tables);
+    let ((states, moves), ((lookaheads, shift), (map, symbols))) = both(
+        steps_in(alloc, row, sample),
+        rest,
+    )?;
+    Ok(SegmenterStateMachine::try_from_parts(symbols, states, moves, lookaheads, shift, map)?)
 }
 
-// The machine of a row with these states and moves.
-fn machine_with(
-    alloc: Global,
-    row: Row<'_>,
-    sample: Option<&SegmenterStateMachine>,
-    states: Vec<(Acceptance, Option<Lookahead>)>,
-    moves: Vec<State>,
-) -> Result<SegmenterStateMachine> {
-    let (lookaheads, shift) = machine_numbers(row)?;
-    let map = map_in(alloc, row, sample)?;
-    let symbols = symbols_in(alloc, row, sample)?;
-    Ok(SegmenterStateMachine::try_from_parts(symbols, states, moves, lookaheads, shift, map)?)
+/// Two answers, or why the first that lacks is not there.
+pub fn both<A: Drop, B: Drop>(first: Result<A>, second: Result<B>) -> Result<(A, B)> {
+    Ok((first?, second?))
+}
+
+// What the states of a machine accept, and where symbols lead from them.
+type Steps = (Vec<(Acceptance, Option<Lookahead>)>, Vec<State>);
+
+fn steps_in(alloc: Global, row: Row<'_>, sample: Option<&SegmenterStateMachine>) -> Result<Steps> {
+    let states = states_in(alloc, row, sample)?;
+    let moves = moves_in(alloc, row, sample, states.len())?;
+    Ok((states, moves))
 }
 
 // How many lookaheads a machine has, and its first pseudo symbol.
@@ -208,9 +212,11 @@ fn table_like(
     sample: Option<&RuleBreakData>,
 ) -> Result<RuleBreakData> {
     let (count, [last, start, end, complex]) = table_numbers(alloc, row, sample)?;
-    let entries = entries_in(alloc, row, sample, count)?;
-    let statuses = statuses_in(alloc, row, sample)?;
-    let classes = classes_in(alloc, row, sample)?;
+    let rest = both(
+        statuses_in(alloc, row, sample),
+        classes_in(alloc, row, sample),
+    );
+    let (entries, (statuses, classes)) = both(entries_in(alloc, row, sample, count), rest)?;
     Ok(RuleBreakData::try_from_parts(classes, entries, statuses, count, last, start, end, complex)?)
 }
 
@@ -281,12 +287,17 @@ fn entries_in(
 ) -> Result<Vec<BreakState>> {
     let mut entries = all_entries(alloc, row, sample, count)?;
     let words = row.part_since("set", "table").unwrap_or("");
+    set_entries(&mut entries, count, words)?;
+    Ok(entries)
+}
+
+fn set_entries(entries: &mut [BreakState], count: u8, words: &str) -> Result<()> {
     for word in words.split_whitespace() {
         let (left, right, byte) = cell_of(word)?;
         let place = place_in(usize::from(count), left, right);
         *entries.get_mut(place).context("no such entry")? = BreakState::from_unaligned(byte);
     }
-    Ok(entries)
+    Ok(())
 }
 
 fn all_entries(
@@ -308,11 +319,14 @@ fn entries_of(alloc: Global, words: &str, count: u8) -> Result<Vec<BreakState>> 
         let entry = BreakState::from_unaligned(number_of(byte)?);
         return Ok(vec![in alloc; entry; count]?);
     }
+    let bytes = numbers_of(alloc, words)?;
+    Ok(break_states(alloc, bytes.as_slice())?)
+}
+
+fn break_states(alloc: Global, bytes: &[u8]) -> Result<Vec<BreakState>, AllocError> {
     let mut entries = Vec::new(alloc);
-    for byte in numbers_of(alloc, words)? {
-        entries
-            .push(BreakState::from_unaligned(byte))
-            .map_err(AllocError::from)?;
+    for byte in bytes {
+        entries.push(BreakState::from_unaligned(*byte))?;
     }
     Ok(entries)
 }

@@ -110,13 +110,22 @@ fn shown_boundaries(
     mut boundaries: RuleBreakIterator<'_, Utf8CharIndices<'_>>,
 ) -> Result<String, AllocError> {
     let mut out = String::new(alloc);
+    push_boundaries(alloc, &mut out, &mut boundaries)?;
+    Ok(out)
+}
+
+fn push_boundaries(
+    alloc: Global,
+    out: &mut String,
+    boundaries: &mut RuleBreakIterator<'_, Utf8CharIndices<'_>>,
+) -> Result<(), AllocError> {
     for _ in 0..u64::MAX {
         let Some(place) = boundaries.next() else {
             break;
         };
-        push_boundary(alloc, &mut out, place, boundaries.status())?;
+        push_boundary(alloc, out, place, boundaries.status())?;
     }
-    Ok(out)
+    Ok(())
 }
 
 // Adds a boundary with its status.
@@ -151,13 +160,22 @@ fn shown_statuses(
     mut boundaries: rule_segmenter_v1::RuleBreakIterator<'_, Latin1Indices<'_>>,
 ) -> Result<String, AllocError> {
     let mut out = String::new(alloc);
+    push_statuses(alloc, &mut out, &mut boundaries)?;
+    Ok(out)
+}
+
+fn push_statuses(
+    alloc: Global,
+    out: &mut String,
+    boundaries: &mut rule_segmenter_v1::RuleBreakIterator<'_, Latin1Indices<'_>>,
+) -> Result<(), AllocError> {
     for _ in 0..u64::MAX {
         let Some(place) = boundaries.next() else {
             break;
         };
-        push_boundary(alloc, &mut out, place, boundaries.rule_status())?;
+        push_boundary(alloc, out, place, boundaries.rule_status())?;
     }
-    Ok(out)
+    Ok(())
 }
 
 /// The symbol of the code point that a row names, by a machine with its tailoring; or else how long the tailoring's maps are and

@@ -1,10 +1,12 @@
 //! Segmenters with data of their own.
 
+use crate::data::both;
 use crate::options::Options;
 use crate::parts::{Kind, Parts, given};
 use anyhow::Result;
 use bench::segmenter::Segmenter;
 use icu_segmenter::options::{SentenceBreakOptions, WordBreakOptions};
+use icu_segmenter::provider::RuleBreakData;
 use icu_segmenter::{GraphemeClusterSegmenter, LineSegmenter, SentenceSegmenter, WordSegmenter};
 use std::mem;
 
@@ -27,10 +29,11 @@ pub fn own(parts: &mut Parts, kind: Kind, options: &Options) -> Result<Segmenter
 }
 
 fn clusters(parts: &mut Parts, kind: Kind) -> Result<GraphemeClusterSegmenter> {
-    Ok(match kind {
-        Kind::NeoClusters => GraphemeClusterSegmenter::try_new_neo(given(&mut parts.machine)?)?,
-        _ => GraphemeClusterSegmenter::try_new(given(&mut parts.table)?)?,
-    })
+    let clusters = match kind {
+        Kind::NeoClusters => GraphemeClusterSegmenter::try_new_neo(given(&mut parts.machine)?),
+        _ => GraphemeClusterSegmenter::try_new(given(&mut parts.table)?),
+    };
+    Ok(clusters?)
 }
 
 fn sentences(parts: &mut Parts, kind: Kind, options: &Options) -> Result<SentenceSegmenter> {
@@ -38,23 +41,21 @@ fn sentences(parts: &mut Parts, kind: Kind, options: &Options) -> Result<Sentenc
         content_locale: options.language(),
         ..SentenceBreakOptions::default()
     };
-    Ok(match kind {
-        Kind::NeoSentences => SentenceSegmenter::try_new_neo(
-            given(&mut parts.machine)?,
-            parts.tailoring.take(),
-            options,
-        )?,
-        _ => SentenceSegmenter::try_new(
-            given(&mut parts.table)?,
-            parts.overriding.take(),
-            options,
-        )?,
-    })
+    let sentences = match kind {
+        Kind::NeoSentences => {
+            let machine = given(&mut parts.machine)?;
+            SentenceSegmenter::try_new_neo(machine, parts.tailoring.take(), options)
+        }
+        _ => {
+            let table = given(&mut parts.table)?;
+            SentenceSegmenter::try_new(table, parts.overriding.take(), options)
+        }
+    };
+    Ok(sentences?)
 }
 
 fn neo_words(parts: &mut Parts) -> Result<WordSegmenter> {
-    let machine = given(&mut parts.machine)?;
-    let clusters = given(&mut parts.cluster_table)?;
+    let (machine, clusters) = both(given(&mut parts.machine), given(&mut parts.cluster_table))?;
     let options = WordBreakOptions::default();
     Ok(WordSegmenter::try_new_neo_for_non_complex_scripts(machine, clusters, options)?)
 }
@@ -68,18 +69,23 @@ fn words(parts: &mut Parts, kind: Kind) -> Result<WordSegmenter> {
 
 // Words by a pair table, with dictionaries or by the constructor that takes none.
 fn table_words(parts: &mut Parts) -> Result<WordSegmenter> {
-    let table = given(&mut parts.table)?;
-    let clusters = given(&mut parts.cluster_table)?;
+    let (table, clusters) = tables(parts)?;
     let overriding = parts.overriding.take();
     let options = WordBreakOptions::default();
-    Ok(match parts.first.take() {
+    let words = match parts.first.take() {
         Some(first) => {
-            WordSegmenter::try_new_dictionary(table, overriding, clusters, first, options)?
+            WordSegmenter::try_new_dictionary(table, overriding, clusters, first, options)
         }
         None => {
-            WordSegmenter::try_new_for_non_complex_scripts(table, overriding, clusters, options)?
+            WordSegmenter::try_new_for_non_complex_scripts(table, overriding, clusters, options)
         }
-    })
+    };
+    Ok(words?)
+}
+
+// The pair table, and that of clusters.
+fn tables(parts: &mut Parts) -> Result<(RuleBreakData, RuleBreakData)> {
+    both(given(&mut parts.table), given(&mut parts.cluster_table))
 }
 
 fn loaded_words(mut words: WordSegmenter, parts: &mut Parts) -> WordSegmenter {
@@ -90,8 +96,7 @@ fn loaded_words(mut words: WordSegmenter, parts: &mut Parts) -> WordSegmenter {
 }
 
 fn neo_lines(parts: &mut Parts, options: &Options) -> Result<LineSegmenter> {
-    let machine = given(&mut parts.machine)?;
-    let clusters = given(&mut parts.cluster_machine)?;
+    let (machine, clusters) = both(given(&mut parts.machine), given(&mut parts.cluster_machine))?;
     Ok(LineSegmenter::try_new_neo_for_non_complex_scripts(
         machine,
         mem::take(&mut parts.tailorings),
@@ -110,18 +115,17 @@ fn lines(parts: &mut Parts, kind: Kind, options: &Options) -> Result<LineSegment
 
 // Lines by a pair table, with dictionaries or by the constructor that takes none.
 fn table_lines(parts: &mut Parts, options: &Options) -> Result<LineSegmenter> {
-    let table = given(&mut parts.table)?;
-    let clusters = given(&mut parts.cluster_table)?;
+    let (table, clusters) = tables(parts)?;
     let options = options.of_lines();
-    Ok(match parts.first.take() {
-        Some(first) => LineSegmenter::try_new_dictionary(table, clusters, first, options)?,
-        None => LineSegmenter::try_new_for_non_complex_scripts(table, clusters, options)?,
-    })
+    let lines = match parts.first.take() {
+        Some(first) => LineSegmenter::try_new_dictionary(table, clusters, first, options),
+        None => LineSegmenter::try_new_for_non_complex_scripts(table, clusters, options),
+    };
+    Ok(lines?)
 }
 
 fn lines_17(parts: &mut Parts, options: &Options) -> Result<LineSegmenter> {
-    let table = given(&mut parts.table)?;
-    let clusters = given(&mut parts.cluster_table)?;
+    let (table, clusters) = tables(parts)?;
     let options = options.of_lines();
     Ok(LineSegmenter::try_new_17_for_non_complex_scripts(table, clusters, options)?)
 }

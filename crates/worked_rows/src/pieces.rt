@@ -8,7 +8,7 @@ use crate::samples::{Sample, quoted};
 use anyhow::{Result, bail};
 use bench::found::push_word;
 use bench::segmenter::Text;
-use icu_segmenter::complex::{ComplexPayloadBorrowed, ComplexPayloadsBorrowed};
+use icu_segmenter::complex::{ComplexIterator, ComplexPayloadBorrowed, ComplexPayloadsBorrowed};
 use icu_segmenter::indices::{StrCharIndices, Utf16Indices};
 use icu_segmenter::provider::{ComplexScript, DictionaryBreakData};
 use icu_segmenter::{GraphemeClusterSegmenter, GraphemeClusterSegmenterBorrowed};
@@ -17,6 +17,7 @@ use seg_clusters::script_iter::ScriptIterator;
 use seg_data::provider::DictionaryCursor;
 use seg_data::words::WordCursor;
 use seg_text::cursor::Cursor;
+use seg_text::scaffold::RuleBreakType;
 use std::alloc::{AllocError, Global};
 
 /// The cuts of a text as one piece, by the words of Thai and the clusters of the row's pair table, or of its machine where it has none.
@@ -61,17 +62,24 @@ fn cuts_in(
     let offset = usize::from(offset);
     let cuts = match text {
         Text::Str(text) if text.len() < LONGEST => {
-            piece.segment_str(text, clusters, offset).collect(alloc)
+            collected(alloc, piece.segment_str(text, clusters, offset))
         }
         Text::Utf8(bytes) if bytes.len() < LONGEST => {
-            piece.segment_utf8(bytes, clusters, offset).collect(alloc)
+            collected(alloc, piece.segment_utf8(bytes, clusters, offset))
         }
         Text::Utf16(units) if units.len() < LONGEST => {
-            piece.segment_utf16(units, clusters, offset).collect(alloc)
+            collected(alloc, piece.segment_utf16(units, clusters, offset))
         }
         _ => bail!("a text that is too long"),
     };
     Ok(cuts?)
+}
+
+fn collected<'s, Y: RuleBreakType<'s>>(
+    alloc: Global,
+    cuts: ComplexIterator<'_, 's, Y>,
+) -> Result<Vec<usize>, AllocError> {
+    cuts.collect(alloc)
 }
 
 /// The cuts of a run, by the words, and the clusters of the row's pair table, or of its machine where it has none.
@@ -132,7 +140,15 @@ pub fn pieces(alloc: Global, row: Row<'_>) -> Result<String> {
 
 fn shown_pieces<I: Cursor>(alloc: Global, text: I) -> Result<String, AllocError> {
     let mut out = String::new(alloc);
-    let mut pieces = ScriptIterator::new(text);
+    push_pieces(alloc, &mut out, &mut ScriptIterator::new(text))?;
+    Ok(out)
+}
+
+fn push_pieces<I: Cursor>(
+    alloc: Global,
+    out: &mut String,
+    pieces: &mut ScriptIterator<I>,
+) -> Result<(), AllocError> {
     for _ in 0..u64::MAX {
         let start = pieces.place();
         let Some((piece, script)) = pieces.next_piece() else {
@@ -140,12 +156,12 @@ fn shown_pieces<I: Cursor>(alloc: Global, text: I) -> Result<String, AllocError>
         };
         let (end, part) = (pieces.place(), part_of(piece));
         let mark = if part == Some((start, end)) { "" } else { "?" };
-        push_piece(alloc, &mut out, start, end, script, mark)?;
+        push_piece(alloc, out, start, end, script, mark)?;
     }
     if pieces.next_piece().is_some() {
         out.push('?')?;
     }
-    Ok(out)
+    Ok(())
 }
 
 // Where the only piece of a piece begins and ends; none where there are others.

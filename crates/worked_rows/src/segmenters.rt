@@ -131,12 +131,22 @@ fn short_texts_answer(
     segmenter: SegmenterBorrowed<'_>,
 ) -> Result<String, AllocError> {
     for number in 0..SHORT_TEXTS {
-        let text = short_text(alloc, number)?;
-        if !agrees_in_all(alloc, segmenter, text.as_str())? {
+        if let Some(text) = other_text(alloc, segmenter, number)? {
             return Ok(text);
         }
     }
     "agree".to_owned(alloc)
+}
+
+// The short text of this number, if its boundaries aren't at equal ordinals in all encodings.
+fn other_text(
+    alloc: Global,
+    segmenter: SegmenterBorrowed<'_>,
+    number: usize,
+) -> Result<Option<String>, AllocError> {
+    let text = short_text(alloc, number)?;
+    let agrees = agrees_in_all(alloc, segmenter, text.as_str())?;
+    Ok((!agrees).then_some(text))
 }
 
 /// Whether the clusters of all short texts are the same by the table and by the machine.
@@ -154,10 +164,21 @@ fn same_clusters_by(
     neo: GraphemeClusterSegmenterBorrowed<'_>,
 ) -> Result<String, AllocError> {
     for number in 0..SHORT_TEXTS {
-        let text = short_text(alloc, number)?;
-        if !has_same_clusters(alloc, classic, neo, text.as_str())? {
+        if let Some(text) = other_clusters(alloc, classic, neo, number)? {
             return Ok(text);
         }
     }
     "agree".to_owned(alloc)
+}
+
+// The short text of this number, if its clusters aren't the same.
+fn other_clusters(
+    alloc: Global,
+    classic: GraphemeClusterSegmenterBorrowed<'_>,
+    neo: GraphemeClusterSegmenterBorrowed<'_>,
+    number: usize,
+) -> Result<Option<String>, AllocError> {
+    let text = short_text(alloc, number)?;
+    let is_same = has_same_clusters(alloc, classic, neo, text.as_str())?;
+    Ok((!is_same).then_some(text))
 }
