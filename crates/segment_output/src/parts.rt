@@ -11,7 +11,7 @@ ghost use Rattle.segment_text.specs.Size.{both_sizes, size_of};
 use crate::output::{Part, Style};
 use crate::segmenter::Segmenter;
 use crate::wrapper::Wrapper;
-use segment_text::blocks::{read_block, whole_len};
+use segment_text::blocks::{hold, read_block, whole_len};
 use segment_text::fault::Fault;
 use segment_text::preparation::Preparation;
 use segment_text::size::{Size, Tally};
@@ -161,14 +161,6 @@ fn add_block<O: Write>(
     hold(rest, &mut next)?;
     let part = mem::replace(&mut progress.held, next);
     print_part(splitting, part, progress, out)
-}
-
-// Adds bytes to those that are held.
-fn hold(bytes: &[u8], held: &mut Vec<u8>) -> Result<(), Fault>
-    ensures { OnOk result (held.new.items ≡ held.old.items ++ bytes.now) }
-{
-    held.extend_from_slice(bytes)
-        .map_err(|_| Fault::MemoryBefore)
 }
 
 // Writes what is held, which is the text's last part.

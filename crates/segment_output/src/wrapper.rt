@@ -196,8 +196,8 @@ pub fn wrapper_of(
         None
     };
     Ok(Wrapper {
-        first_indent: copied(alloc, width.first_indent)?,
-        indent: copied(alloc, width.indent)?,
+        first_indent: width.first_indent.as_bytes().to_vec(alloc)?,
+        indent: width.indent.as_bytes().to_vec(alloc)?,
         room: Room::beside(width.columns, width.first_indent, width.indent),
         counted,
         lines: MachineLines::try_new(alloc, options, dictionaries)?,
@@ -215,13 +215,4 @@ fn cluster_lines(alloc: Global) -> Result<MachineLines, DataError>
         content_locale: None,
     };
     MachineLines::try_new(alloc, options, Dictionaries::none())
-}
-
-// The bytes of a text once more. Fails only when out of memory.
-fn copied(alloc: Global, text: &str) -> Result<Vec<u8>, AllocError>
-    ensures { IfOk result (λ bytes. bytes.items ≡ text.now) }
-{
-    let mut bytes = Vec::new(alloc);
-    bytes.extend_from_slice(text.as_bytes())?;
-    Ok(bytes)
 }

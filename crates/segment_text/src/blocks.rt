@@ -1,5 +1,5 @@
 //! Blocks of a text, as they are read, and where they are split.
-ghost use Rattle.std.specs.Prelude.{◌≡◌, ◌<◌, ◌≤◌, IfOk, IfSome, OnErr, length, take};
+ghost use Rattle.std.specs.Prelude.{◌≡◌, ◌++◌, ◌<◌, ◌≤◌, IfOk, IfSome, OnErr, OnOk, length, take};
 ghost use Rattle.std.specs.List.{list_all};
 ghost use Rattle.std.specs.Io.{ReadsAtMost};
 ghost use Rattle.std.specs.Io.KnownBytes.{Consumes, IsAtEnd, Keeps, ReadConsumes};
@@ -87,4 +87,12 @@ fn is_blank_line(line: &[u8]) -> bool
 {
     line.iter()
         .all(|byte| *byte == b' ' || *byte == b'\t' || *byte == b'\r')
+}
+
+/// Adds bytes to those that are held until a text can be split behind them. The fault is being out of memory.
+pub fn hold(bytes: &[u8], held: &mut Vec<u8>) -> Result<(), Fault>
+    ensures { OnOk result (held.new.items ≡ held.old.items ++ bytes.now) }
+{
+    held.extend_from_slice(bytes)
+        .map_err(|_| Fault::MemoryBefore)
 }

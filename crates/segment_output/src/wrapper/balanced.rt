@@ -83,12 +83,8 @@ impl Wrapper {
         ensures { OnOk result (gathered.new.items ≡ gathered.old.items ++ shown_spans (wrapping_of self.now) text.now spans.now) }
     {
         'spans: for span in spans {
-            self.push_shown(
-                &text[span.start..span.end],
-                span.columns,
-                span.is_first,
-                gathered,
-            )?;
+            let line = &text[span.start..span.end];
+            self.push_shown(line, span.columns, span.is_first, gathered)?;
         }
         Ok(())
     }
