@@ -3,6 +3,10 @@ pub mod Choosing
 pub mod Growing
 pub mod Letters
 pub mod Nodes
+pub mod PointPlaces
 pub mod Raising
 pub mod Said
 pub mod Splitting
+pub mod Within
+pub mod WordPlaces
+pub mod WordPoints

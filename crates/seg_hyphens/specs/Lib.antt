@@ -5,3 +5,4 @@ pub mod Reading
 pub mod Texts
 pub mod Tries
 pub mod Values
+pub mod Words
