@@ -80,9 +80,15 @@ pub mod memo {
     >;
 }
 
+/// Where words may be hyphenated, by patterns of the caller's.
+pub mod hyphens {
+    pub use seg_hyphens::fault::{Fault, HyphenationError};
+    pub use seg_hyphens::patterns::HyphenationPatterns;
+}
+
 /// Lines of a text, wrapped to columns.
 pub mod wrap {
-    pub use seg_wrap::wrap::balanced::BalancedParagraphs;
+    pub use seg_wrap::wrap::paragraphs::{Fit, ParagraphStyle, Paragraphs};
     pub use seg_wrap::wrap::{
         LineWrapper, Room, Span, WrapError, WrapIterator, WrapUtf8Iterator, WrapUtf16Iterator,
         WrappedLine, WrappedUtf8Line, WrappedUtf16Line, utf8_columns,

@@ -67,7 +67,7 @@ pub lines-next : (units : List ℕ) (before after : LinesLeft) (span : Span) →
     → text_lines units before.text before.lines
     ≡ record { units = between span.start span.end units; columns = span.columns; is_first = span.is_first; is_mandatory = span.is_mandatory } ∷ text_lines units after.text after.lines
 unfolding text_lines
-lines-next units before after span (line, (lines, (rest, (start, (end, (columns, (first, mark))))))) =
+lines-next units before after span (line, (lines, (rest, (start, (end, (columns, (first, (hyphen, mark)))))))) =
     rw (lines, start, end, columns, first, mark, rest) refl
 
 pub lines-none : (units : List ℕ) (before after : LinesLeft) → GivesLine before None after

@@ -11,3 +11,4 @@ pub mod Given
 pub mod Hints
 pub mod Pieces
 pub mod Spans
+pub mod Parts

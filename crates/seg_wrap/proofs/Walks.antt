@@ -16,13 +16,18 @@ use Rattle.seg_wrap.proofs.Places.{characters-on, count-before-on, first-before,
 
 -- two pieces as one
 abbrev pub joined_piece : Piece → Piece → Piece
-joined_piece line piece = record { end = piece.end; extent = joined_extents line.extent piece.extent; is_mandatory = piece.is_mandatory }
+joined_piece line piece = record {
+  end = piece.end;
+  extent = joined_extents line.extent piece.extent;
+  is_hyphenated = piece.is_hyphenated;
+  is_mandatory = piece.is_mandatory;
+}
 
 abbrev segment_with : Bool → List Cell → List ℕ → Segment
 segment_with mark cells cs = record { characters = cs; cells = cells; is_mandatory = mark }
 
 abbrev line_with : Bool → List ℕ → ℕ → Bool → Line
-line_with is_first cs columns mark = record { characters = cs; columns = columns; is_first = is_first; is_mandatory = mark }
+line_with is_first cs columns mark = record { characters = cs; columns = columns; is_first = is_first; is_hyphenated = false; is_mandatory = mark }
 
 -- a line of some cells, and the piece after it
 pub record IsPair (measure : Measure) (text : Text) (cells : List Cell) (line piece : Piece) : Type 0 where
@@ -154,27 +159,33 @@ pub part-end : (text part : Text) (count end : ℕ) → part ≡ text_before cou
 part-end text part count end part_is at = ap (λ (t : Text). t.end) part_is ∙ sym at
 
 pub read-segments : (measure : Measure) (text : Text) (end : ℕ) (mark : Bool) (extent : Extent) (before after : List Boundary) → IsRead end mark before after
-    → segment_at measure text (record { end = end; extent = extent; is_mandatory = mark }) ∷ segments_from measure (rest_from end text) after ≡ segments_from measure text before
+    → segment_at measure text (record { end = end; extent = extent; is_hyphenated = false; is_mandatory = mark }) ∷ segments_from measure (rest_from end text) after ≡ segments_from measure text before
 unfolding segments_from
 read-segments measure text end mark extent before after is = rw (is.1.0, is.1.1) refl
+
+-- a piece that ends where an item begins, measured
+pub first-segment : (measure : Measure) (text part : Text) (end : ℕ) (hyphen mark : Bool) (extent : Extent) → 0 < count_before end text
+    → end ≡ start_of (rest_from end text) → part ≡ text_before (count_before end text) text → extent ≡ line_extent (measure (code_points part.items))
+    → extent.inner_columns + 8 * start_of part ≤ 8 * part.end
+    → IsFirstSegment measure text (record { end = end; extent = extent; is_hyphenated = hyphen; is_mandatory = mark })
+first-segment measure text part end hyphen mark extent some at part_is measured small =
+    let count : ℕ = count_before end text in
+    let first : start_of part ≡ start_of text = ap start_of part_is ∙ start-before count text some in
+    let last : part.end ≡ end = part-end text part count end part_is at in
+    record {
+      some = some;
+      at = at;
+      measured = measured ∙ ap (λ (cs : List ℕ). line_extent (measure cs)) (ap (λ (t : Text). code_points t.items) part_is ∙ sym (take-map (λ (item : Item). item.1) count text.items));
+      small = omega (arith, small, first, last);
+    }
 
 pub read-held : (measure : Measure) (text part : Text) (end : ℕ) (mark : Bool) (extent : Extent) (before after : List Boundary) → AreCuts text before → IsRead end mark before after
     → part ≡ text_before (count_before end text) text → extent ≡ line_extent (measure (code_points part.items))
     → extent.inner_columns + 8 * start_of part ≤ 8 * part.end
-    → IsHeldPiece measure text (Some (record { end = end; extent = extent; is_mandatory = mark })) after
+    → IsHeldPiece measure text (Some (record { end = end; extent = extent; is_hyphenated = false; is_mandatory = mark })) after
 read-held measure text part end mark extent before after cuts is part_is measured small =
     let parts = read-cuts text end mark before after cuts is in
-    let count : ℕ = count_before end text in
-    let first : start_of part ≡ start_of text = ap start_of part_is ∙ start-before count text parts.0 in
-    let last : part.end ≡ end = part-end text part count end part_is parts.1.0 in (
-      record {
-        some = parts.0;
-        at = parts.1.0;
-        measured = measured ∙ ap (λ (cs : List ℕ). line_extent (measure cs)) (ap (λ (t : Text). code_points t.items) part_is ∙ sym (take-map (λ (item : Item). item.1) count text.items));
-        small = omega (arith, small, first, last);
-      },
-      parts.1.1,
-    )
+    (first-segment measure text part end false mark extent parts.0 parts.1.0 part_is measured small, parts.1.1)
 
 -- ---- one piece more
 
@@ -193,10 +204,10 @@ pub turn : (measure : Measure) (room : Room) (is_first : Bool) (text here after 
     → IsGrowing measure room is_first text owed line before left here → before ≡ Some piece
     → extent ≡ joined_extents line.extent piece.extent → line.is_mandatory ≡ false → extent.columns ≤ columns_in room is_first
     → segments_held measure here held boundaries ≡ segments_from measure here left → IsHeldPiece measure here held boundaries → after ≡ rest_held here held
-    → IsGrowing measure room is_first text owed (record { end = piece.end; extent = extent; is_mandatory = piece.is_mandatory }) held boundaries after
+    → IsGrowing measure room is_first text owed (record { end = piece.end; extent = extent; is_hyphenated = piece.is_hyphenated; is_mandatory = piece.is_mandatory }) held boundaries after
 turn measure room is_first text here after owed line before piece extent left held boundaries is some both mark fits segments held_is after_is =
     let goes : (line.is_mandatory || nat_lt (columns_in room is_first) (joined_extents line.extent piece.extent).columns) ≡ false = rw mark (subst (λ (e : Extent). nat_lt (columns_in room is_first) e.columns ≡ false) both (le-ltb (columns_in room is_first) extent.columns fits)) in
-    subst (λ (e : Extent). IsGrowing measure room is_first text owed (record { end = piece.end; extent = e; is_mandatory = piece.is_mandatory }) held boundaries after) (sym both)
+    subst (λ (e : Extent). IsGrowing measure room is_first text owed (record { end = piece.end; extent = e; is_hyphenated = piece.is_hyphenated; is_mandatory = piece.is_mandatory }) held boundaries after) (sym both)
     (grow-on measure room is_first text here after owed line piece left held boundaries (growing-at measure room is_first text here owed line before piece left is some) goes segments held_is after_is)
 
 -- with each piece fewer segments are left
@@ -232,7 +243,7 @@ pub given-span : (measure : Measure) (room : Room) (is_first : Bool) (text rest 
     → held ≡ Some first → (cells : List Cell) × IsFirstPiece text cells line → rest ≡ rest_from line.end text
     → lines_from room is_first (segment_at measure text first) (segments_from measure (rest_from first.end text) left) ≡ line_at is_first text line ∷ lines_held measure room line.is_mandatory (rest_from line.end text) next later
     → (one : Line) × ((lines_held measure room is_first text held left ≡ one ∷ lines_held measure room line.is_mandatory rest next later) × ((rest ≡ rest_after (length one.characters) text)
-    × ((line.end ≡ start_of rest) × ((line.extent.columns ≡ one.columns) × ((is_first ≡ one.is_first) × (line.is_mandatory ≡ one.is_mandatory))))))
+    × ((line.end ≡ start_of rest) × ((line.extent.columns ≡ one.columns) × ((is_first ≡ one.is_first) × ((false ≡ one.is_hyphenated) × (line.is_mandatory ≡ one.is_mandatory)))))))
 given-span measure room is_first text rest held first line next left later held_is is rest_is lines = (
   line_at is_first text line,
   (
@@ -241,7 +252,7 @@ given-span measure room is_first text rest held first line next left later held_
       rest_is ∙ sym (rest-of-characters text line.end),
       (
         is.1.at ∙ ap start_of (sym rest_is),
-        (refl, (refl, refl)),
+        (refl, (refl, (refl, refl))),
       ),
     ),
   ),

@@ -1,5 +1,5 @@
 -- A wrapper on its way through a text, and what it measures.
-use Rattle.std.specs.Prelude.{◌≡◌, ℕ, ◌+◌, ◌&&◌, Bool, List, [], ◌∷◌, ◌++◌, if◌then◌else◌, ◌*◌, ◌<◌, ◌≤◌, ◌==◌, length, Option, Some, None, MatchOption}
+use Rattle.std.specs.Prelude.{◌≡◌, ℕ, ◌+◌, ◌&&◌, Bool, false, List, [], ◌∷◌, ◌++◌, if◌then◌else◌, ◌*◌, ◌<◌, ◌≤◌, ◌==◌, length, Option, Some, None, MatchOption}
 use Rattle.seg_text.specs.Items.{Text, code_points, rest_after, start_of}
 use Rattle.seg_text.specs.declared.boundary.Boundary.{Boundary}
 use Rattle.seg_text.specs.Boundaries.{boundary}
@@ -58,7 +58,13 @@ segment_at measure text piece = segment_of measure (characters_before piece.end 
 
 abbrev pub line_at : Bool → Text → Piece → Line
 line_at is_first text piece =
-    record { characters = characters_before piece.end text; columns = piece.extent.columns; is_first = is_first; is_mandatory = piece.is_mandatory }
+    record {
+      characters = characters_before piece.end text;
+      columns = piece.extent.columns;
+      is_first = is_first;
+      is_hyphenated = false;
+      is_mandatory = piece.is_mandatory;
+    }
 
 -- a text begins with this piece, and this is the extent of its cells
 pub record IsFirstPiece (text : Text) (cells : List Cell) (piece : Piece) : Type 0 where
@@ -112,4 +118,5 @@ GivesLine before result after =
     MatchOption result ((before.lines ≡ []) × (after ≡ before)) (λ span.
     (line : Line) × ((before.lines ≡ line ∷ after.lines) × ((after.text ≡ rest_after (length line.characters) before.text)
     × ((span.start ≡ start_of before.text) × ((span.end ≡ start_of after.text)
-    × ((span.columns ≡ line.columns) × ((span.is_first ≡ line.is_first) × (span.is_mandatory ≡ line.is_mandatory))))))))
+    × ((span.columns ≡ line.columns) × ((span.is_first ≡ line.is_first)
+    × ((span.is_hyphenated ≡ line.is_hyphenated) × (span.is_mandatory ≡ line.is_mandatory)))))))))

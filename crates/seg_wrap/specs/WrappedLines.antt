@@ -1,5 +1,5 @@
 -- What is seen of lines that are given, and of iterators over them.
-use Rattle.std.specs.Prelude.{ℕ, List}
+use Rattle.std.specs.Prelude.{◌≡◌, ℕ, List}
 use Rattle.std.specs.List.{flat_map}
 use Rattle.seg_text.specs.Decoding.{utf8}
 use Rattle.seg_text.specs.Items.{Text}
@@ -8,6 +8,7 @@ use Rattle.seg_lines.specs.Lines.{line_rules}
 use Rattle.seg_wrap.specs.declared.wrap.LineWrapper.{LineWrapper}
 use Rattle.seg_wrap.specs.declared.wrap.WrappedLine.{WrappedLine}
 use Rattle.seg_wrap.specs.declared.wrap.WrapIterator.{WrapIterator}
+use Rattle.seg_wrap.specs.declared.wrap.paragraphs.ParagraphStyle.{ParagraphStyle}
 use Rattle.seg_wrap.specs.declared.wrap.wrapping.Room.{Room}
 use Rattle.seg_wrap.specs.declared.wrap.WrappedUtf8Line.{WrappedUtf8Line}
 use Rattle.seg_wrap.specs.declared.wrap.WrapUtf8Iterator.{WrapUtf8Iterator}
@@ -30,13 +31,12 @@ wrapped_units decode measure rules limit units = wrapped_within decode measure r
 abbrev pub wrapped_text : Measure → LineRules → ℕ → List ℕ → List TextLine
 wrapped_text measure rules limit bytes = wrapped_units utf8 measure rules limit bytes
 
--- the paragraphs of such a text, whose lines have at most so many columns
-abbrev pub paragraphs_of : (List ℕ → Text) → Measure → LineRules → ℕ → List ℕ → ParagraphsLeft
-paragraphs_of decode measure rules limit units = record {
-  text = decode units;
-  segments = segments_of measure (decode units) (line_boundaries_of rules (decode units));
-  limit = limit;
-}
+-- the paragraphs of such a text are left, whose lines are chosen so
+pub record AreParagraphsOf (decode : List ℕ → Text) (measure : Measure) (rules : LineRules) (chosen : ParagraphStyle) (units : List ℕ) (left : ParagraphsLeft) : Type 0 where
+  pub text : left.text ≡ decode units
+  pub segments : left.segments ≡ segments_of measure (decode units) (line_boundaries_of rules (decode units))
+  pub measured : measure_of left.measuring ≡ measure
+  pub style : left.style ≡ chosen
 
 -- what lines stand in, one after another
 abbrev pub joined_units : List TextLine → List ℕ

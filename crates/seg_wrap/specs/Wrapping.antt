@@ -112,17 +112,19 @@ segments_from measure text (boundary ∷ boundaries) =
 abbrev pub segments_of : Measure → Text → List Boundary → List Segment
 segments_of measure text boundaries = segments_from measure text (drop 1 boundaries)
 
--- a line: its characters, its columns, whether it is the first of its paragraph, and whether it ends where a line must
+-- a line: its characters, its columns, whether it is the first of its paragraph, whether it shows a hyphen at its end, and whether it ends where a
+-- line must
 pub record Line : Type 0 where
   pub characters : List ℕ
   pub columns : ℕ
   pub is_first : Bool
+  pub is_hyphenated : Bool
   pub is_mandatory : Bool
 
 -- segments as a line, which is the first of its paragraph or not
 abbrev pub line_of : Bool → Segment → Line
 line_of is_first line =
-    record { characters = line.characters; columns = columns_of line.cells; is_first = is_first; is_mandatory = line.is_mandatory }
+    record { characters = line.characters; columns = columns_of line.cells; is_first = is_first; is_hyphenated = false; is_mandatory = line.is_mandatory }
 
 -- a line of so many columns ends before the next segment: where it must, or where it would be too wide with it
 abbrev pub ends_before : ℕ → Segment → Segment → Bool

@@ -3,7 +3,7 @@
 ghost use Rattle.std.specs.Prelude.{◌≡◌, ℕ, List, map};
 ghost use Rattle.seg_balance.specs.Balanced.{line_columns};
 ghost use Rattle.seg_wrap.specs.declared.wrap.wrapping.Room.{Room};
-ghost use Rattle.seg_wrap.specs.Paragraphs.{joined, measured};
+ghost use Rattle.seg_wrap.specs.Paragraphs.{Part, joined, measured};
 ghost use Rattle.seg_wrap.specs.Wrapping.{Segment, HasOneWrapping, columns_of};
 
 /// Law: the wrapped lines are the one list of lines that keeps four rules. Each line is one or more whole segments, and together they are
@@ -14,8 +14,8 @@ pub fn wrapped_lines_are_one()
     ensures { (room : Room) (segments : List Segment) → HasOneWrapping room segments }
 {}
 
-/// Law: balanced lines are chosen by the columns that wrapped lines have: a line of measured segments has those of all its cells, without
-/// trailing white space.
-pub fn balanced_lines_are_measured()
-    ensures { (segments : List Segment) → line_columns (map measured segments) ≡ columns_of (joined segments).cells }
+/// Law: the lines of paragraphs are chosen by the columns that wrapped lines have: a line of measured parts has those of all its cells,
+/// without trailing white space.
+pub fn lines_are_measured()
+    ensures { (parts : List Part) → line_columns (map measured parts) ≡ columns_of (joined parts).cells }
 {}

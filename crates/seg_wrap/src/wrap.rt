@@ -11,16 +11,17 @@ ghost use Rattle.seg_wrap.specs.Wrapping.{by_characters, by_clusters, bytes_colu
 ghost use Rattle.seg_clusters.specs.Clusters.{cluster_rules};
 ghost use Rattle.seg_lines.specs.LineBreaks.{IsByPairTable};
 
-pub mod balanced;
 pub mod breaks;
 mod extent;
 mod measure;
+pub mod paragraphs;
+mod parts;
 mod utf16;
 mod wrapping;
 
-use crate::wrap::balanced::BalancedParagraphs;
 use crate::wrap::extent::Extent;
 use crate::wrap::measure::Measuring;
+use crate::wrap::paragraphs::{ParagraphStyle, Paragraphs};
 use crate::wrap::wrapping::Wrapping;
 use seg_clusters::grapheme::GraphemeClusterSegmenterBorrowed;
 use seg_lines::line::LineSegmenterBorrowed;
@@ -57,7 +58,7 @@ impl<'data> fmt::Debug for LineWrapper<'data> {
 }
 
 impl<'data> LineWrapper<'data> {
-    ghost use Rattle.seg_wrap.specs.WrappedLines.{joined_units, lines_to_come, paragraphs_of, utf8_lines_to_come, wrapped_text, wrapped_within, wrapper_measure, wrapper_rules};
+    ghost use Rattle.seg_wrap.specs.WrappedLines.{AreParagraphsOf, joined_units, lines_to_come, utf8_lines_to_come, wrapped_text, wrapped_within, wrapper_measure, wrapper_rules};
 
     /// A wrapper by the breaks that a machine finds, and by the widths of characters. `NotNeo` where a pair table finds the breaks.
     pub fn new(lines: LineSegmenterBorrowed<'data>) -> Result<Self, WrapError>
@@ -133,31 +134,31 @@ impl<'data> LineWrapper<'data> {
         }
     }
 
-    /// The lines of a text, balanced paragraph by paragraph, each of at most these columns unless it is one segment. Takes no memory.
-    pub fn balanced_str<'s>(
+    /// The lines of a text, chosen paragraph by paragraph. Takes no memory.
+    pub fn paragraphs_str<'s>(
         self,
         text: &'s str,
-        columns: u32,
-    ) -> BalancedParagraphs<'data, StrCharIndices<'s>>
-        ensures { result ≡ paragraphs_of utf8 (wrapper_measure self.entry) (wrapper_rules self.entry) columns text.now }
+        style: ParagraphStyle,
+    ) -> Paragraphs<'data, StrCharIndices<'s>>
+        ensures { AreParagraphsOf utf8 (wrapper_measure self.entry) (wrapper_rules self.entry) style text.now result }
     {
         let mut breaks = self.lines.segment_str(text);
         let _start = breaks.next();
-        BalancedParagraphs::new(breaks, StrCharIndices::new(text), columns, self.measuring)
+        Paragraphs::new(breaks, StrCharIndices::new(text), self.measuring, style)
     }
 
-    /// The lines of possibly ill-formed UTF-8, balanced paragraph by paragraph. What is ill-formed is as wide as the U+FFFD that it is decoded
+    /// The lines of possibly ill-formed UTF-8, chosen paragraph by paragraph. What is ill-formed is as wide as the U+FFFD that it is decoded
     /// as. Takes no memory.
-    pub fn balanced_utf8<'s>(
+    pub fn paragraphs_utf8<'s>(
         self,
         bytes: &'s [u8],
-        columns: u32,
-    ) -> BalancedParagraphs<'data, Utf8CharIndices<'s>>
-        ensures { result ≡ paragraphs_of utf8 (wrapper_measure self.entry) (wrapper_rules self.entry) columns bytes.now }
+        style: ParagraphStyle,
+    ) -> Paragraphs<'data, Utf8CharIndices<'s>>
+        ensures { AreParagraphsOf utf8 (wrapper_measure self.entry) (wrapper_rules self.entry) style bytes.now result }
     {
         let mut breaks = self.lines.segment_utf8(bytes);
         let _start = breaks.next();
-        BalancedParagraphs::new(breaks, Utf8CharIndices::new(bytes), columns, self.measuring)
+        Paragraphs::new(breaks, Utf8CharIndices::new(bytes), self.measuring, style)
     }
 }
 

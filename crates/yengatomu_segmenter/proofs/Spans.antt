@@ -1,15 +1,19 @@
 -- Balanced lines stay in their text, and are written one by one.
 use Rattle.std.proofs.Common.{◌≡◌, ℕ, ◌+◌, ◌-◌, ◌<◌, ◌≤◌, ◌^◌, List, [], ◌∷◌, length, drop, get_or, map, suc, zero, refl, sym, ap, ◌∙◌, subst, arith}
 use Rattle.std.specs.List.{All}
-use Rattle.std.specs.Prelude.{IfOk, Result, Ok, Err}
+use Rattle.std.specs.Prelude.{IfOk, None, Result, Ok, Err}
 use Rattle.std.proofs.lemmas.List.Elements.{All-cons}
 use Rattle.icu_segmenter.specs.Items.{IsRising, Text, rest_after, start_of}
-use Rattle.icu_segmenter.specs.Paragraphs.{GivesParagraph, ParagraphsLeft, spans_of}
-use Rattle.icu_segmenter.specs.Wrapping.{Line}
+use Rattle.icu_segmenter.specs.LineBreaks.{LineRules}
+use Rattle.icu_segmenter.specs.Paragraphs.{GivesParagraph, ParagraphsLeft, balanced_style, spans_of}
+use Rattle.icu_segmenter.specs.WrappedLines.{AreParagraphsOf}
+use Rattle.icu_segmenter.specs.Wrapping.{Line, Measure}
 use Rattle.seg_text.proofs.Places.{IsRising-drop}
 use Rattle.seg_wrap.proofs.Places.{place-within}
 use Rattle.seg_wrap.proofs.Texts.{IsTextOf}
+use Rattle.seg_wrap.specs.declared.wrap.paragraphs.ParagraphStyle.{ParagraphStyle}
 use Rattle.seg_wrap.specs.declared.wrap.wrapping.Span.{Span}
+use Rattle.yengatomu_segmenter.specs.Balanced.{GivesFirst}
 
 spans-within : (text : Text) (lines : List Line) → IsRising text.items text.end → All (λ (span : Span). span.end ≤ text.end) (spans_of text lines)
 unfolding spans_of
@@ -21,7 +25,7 @@ spans-within text (line ∷ lines) rises =
 
 -- lines of the units behind a place end at places that fit
 pub fit-of : (units : List ℕ) (from : ℕ) (text : Text) (before after : ParagraphsLeft) (spans : List Span) → IsTextOf units text → before.text ≡ text
-    → from + length units < 2 ^ 64 → GivesParagraph before spans after → All (λ (span : Span). from + span.end < 2 ^ 64) spans
+    → from + length units < 2 ^ 64 → GivesParagraph None before spans after → All (λ (span : Span). from + span.end < 2 ^ 64) spans
 fit-of units from text before after spans is same fits gives k default below =
     let within : All (λ (span : Span). span.end ≤ text.end) spans
     = subst (λ (found : List Span). All (λ (span : Span). span.end ≤ text.end) found) (sym (gives.stand ∙ ap (λ (t : Text). spans_of t gives.lines) same)) (spans-within text gives.lines is.rises) in
@@ -46,5 +50,12 @@ pub ok-given : {T E : Type 0} (P Q : T → Type 0) (result : Result T E) → ((f
 ok-given P Q (Ok found) on given = on found given
 ok-given P Q (Err error) on given = given
 
-pub given-of : (before wanted after : ParagraphsLeft) (spans : List Span) → before ≡ wanted → GivesParagraph before spans after → GivesParagraph wanted spans after
-given-of before wanted after spans same gives = subst (λ (left : ParagraphsLeft). GivesParagraph left spans after) same gives
+pub given-of : (decode : List ℕ → Text) (measure : Measure) (rules : LineRules) (columns : ℕ) (style : ParagraphStyle) (units behind : List ℕ) (before after : ParagraphsLeft) (spans : List Span)
+    → AreParagraphsOf decode measure rules style units before → style ≡ balanced_style columns → units ≡ behind → GivesParagraph None before spans after
+    → GivesFirst decode measure rules columns behind spans
+given-of decode measure rules columns style units behind before after spans are style-is units-is gives = record {
+  left = before;
+  are = rw (← style-is, ← units-is) are;
+  after = after;
+  gives = gives;
+}

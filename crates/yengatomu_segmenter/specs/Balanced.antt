@@ -1,11 +1,12 @@
 -- Balanced lines of a paragraph.
-use Rattle.std.specs.Prelude.{◌≡◌, ℕ, ◌+◌, ◌-◌, ◌^◌, ◌⊎◌, List, [], drop, length, map, min}
+use Rattle.std.specs.Prelude.{◌≡◌, ℕ, ◌+◌, ◌-◌, ◌^◌, ◌⊎◌, None, List, [], drop, length, map, min}
 use Rattle.icu_segmenter.specs.Filled.{TakesFirst}
 use Rattle.icu_segmenter.specs.Items.{Text}
-use Rattle.icu_segmenter.specs.LineBreaks.{LineFinder}
+use Rattle.icu_segmenter.specs.LineBreaks.{LineFinder, LineRules}
 use Rattle.icu_segmenter.specs.LineBreaks.LineFinder.{ByClusters, ByPlaces, ByTable, ByTurns, ByMachine}
-use Rattle.icu_segmenter.specs.Paragraphs.{GivesParagraph, ParagraphsLeft}
-use Rattle.icu_segmenter.specs.WrappedLines.{paragraphs_of}
+use Rattle.icu_segmenter.specs.Paragraphs.{GivesParagraph, ParagraphsLeft, balanced_style}
+use Rattle.icu_segmenter.specs.WrappedLines.{AreParagraphsOf}
+use Rattle.icu_segmenter.specs.Wrapping.{Measure}
 use Rattle.seg_wrap.specs.declared.wrap.wrapping.Span.{Span}
 use Rattle.yengatomu_segmenter.specs.Finders.{Finder}
 use Rattle.yengatomu_segmenter.specs.Finders.Finder.{Clusters, Words, Sentences, Lines}
@@ -19,11 +20,17 @@ IfByMachine (ByTable rules) spans Given = spans ≡ []
 IfByMachine (ByTurns rules) spans Given = spans ≡ []
 IfByMachine (ByMachine m) spans Given = Given
 
+-- these are the balanced lines of the first paragraph of a text that stands in some units
+pub record GivesFirst (decode : List ℕ → Text) (measure : Measure) (rules : LineRules) (columns : ℕ) (units : List ℕ) (spans : List Span) : Type 0 where
+  pub left : ParagraphsLeft
+  pub are : AreParagraphsOf decode measure rules (balanced_style columns) units left
+  pub after : ParagraphsLeft
+  pub gives : GivesParagraph None left spans after
+
 -- the lines of the first paragraph of what stands behind a place, in a text that stands in some units, which this decodes; other kinds have none
 abbrev pub IsParagraphBehind : Finder → (List ℕ → Text) → ℕ → List ℕ → ℕ → List Span → Type 0
 IsParagraphBehind (Lines rules clusters) decode columns units from spans =
-    IfByMachine rules.finder spans
-    ((after : ParagraphsLeft) × GivesParagraph (paragraphs_of decode (measure_by clusters) rules columns (drop from units)) spans after)
+    IfByMachine rules.finder spans (GivesFirst decode (measure_by clusters) rules columns (drop from units) spans)
 IsParagraphBehind (Clusters rules) decode columns units from spans = spans ≡ []
 IsParagraphBehind (Words rules) decode columns units from spans = spans ≡ []
 IsParagraphBehind (Sentences rules abbreviations) decode columns units from spans = spans ≡ []

@@ -8,3 +8,4 @@ pub mod Finders
 pub mod ByRules
 pub mod Options
 pub mod Balanced
+pub mod Near

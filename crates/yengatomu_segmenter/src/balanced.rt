@@ -11,7 +11,7 @@ ghost use Rattle.yengatomu_segmenter.specs.Finders.{finder_of};
 use crate::segmenter::Segmenter;
 use crate::texts::rest_of;
 use crate::wrapped::wrapper_of;
-use icu_segmenter::wrap::Span;
+use icu_segmenter::wrap::{ParagraphStyle, Span};
 use std::alloc::{AllocError, Global};
 
 /// The lines of possibly ill-formed UTF-8, by where they begin and end behind the place. Other kinds have none. Fails only when out of memory.
@@ -27,8 +27,9 @@ pub fn lines(
 {
     match wrapper_of(segmenter) {
         Some(wrapper) => {
-            let mut paragraphs = wrapper.balanced_utf8(rest_of(text, from), columns);
-            paragraphs.next_paragraph(alloc)
+            let style = ParagraphStyle::balanced(columns as usize);
+            let mut paragraphs = wrapper.paragraphs_utf8(rest_of(text, from), style);
+            paragraphs.next_paragraph(alloc, None)
         }
         None => Ok(Vec::new(alloc)),
     }
@@ -47,8 +48,9 @@ pub fn lines_utf16(
 {
     match wrapper_of(segmenter) {
         Some(wrapper) => {
-            let mut paragraphs = wrapper.balanced_utf16(rest_of(text, from), columns);
-            paragraphs.next_paragraph(alloc)
+            let style = ParagraphStyle::balanced(columns as usize);
+            let mut paragraphs = wrapper.paragraphs_utf16(rest_of(text, from), style);
+            paragraphs.next_paragraph(alloc, None)
         }
         None => Ok(Vec::new(alloc)),
     }

@@ -5,6 +5,7 @@ ghost use Rattle.std.specs.Prelude.{◌≡◌, ◌+◌, ◌<◌, ◌^◌, drop, 
 ghost use Rattle.icu_segmenter.specs.NearBoundaries.{IsNearestAbove, IsNearestBelow, places_of_units};
 ghost use Rattle.icu_segmenter.specs.Filled.{IsFilled, TakesFirst};
 ghost use Rattle.yengatomu_segmenter.specs.Finders.{finder_of, marks_behind, places_behind, places_in};
+ghost use Rattle.yengatomu_segmenter.specs.Near.{IsNearest};
 ghost use Rattle.yengatomu_segmenter.specs.Words.{word_count};
 
 use crate::buffers;
@@ -122,34 +123,41 @@ pub fn count_words<I: Source>(segmenter: &Segmenter, text: I::Units) -> usize
 pub fn next<T: CursorText>(segmenter: &Segmenter, text: T, place: usize) -> Option<usize>
     ensures nearest { IsNearestAbove (places_in (finder_of segmenter.now) T.Source.decode (T.units text)) place result }
 {
-    by_kind!(segmenter, held => next_by(held, text, place))
-}
-
-// The nearest above it by any kind of segmenter.
-fn next_by<T: CursorText, S: SegmenterOf<T::Source>>(
-    segmenter: S,
-    text: T,
-    place: usize,
-) -> Option<usize>
-    ensures { IsNearestAbove (places_of_units T.Source.decode (S.find segmenter) (T.units text)) place result }
-{
-    BoundaryCursor::over(segmenter, text).next_boundary(place)
+    near(segmenter, text, place, true)
 }
 
 /// The nearest boundary below a place.
 pub fn previous<T: CursorText>(segmenter: &Segmenter, text: T, place: usize) -> Option<usize>
     ensures nearest { IsNearestBelow (places_in (finder_of segmenter.now) T.Source.decode (T.units text)) place result }
 {
-    by_kind!(segmenter, held => previous_by(held, text, place))
+    near(segmenter, text, place, false)
 }
 
-// The nearest below it by any kind of segmenter.
-fn previous_by<T: CursorText, S: SegmenterOf<T::Source>>(
+// The nearest above a place, or else the nearest below it.
+fn near<T: CursorText>(
+    segmenter: &Segmenter,
+    text: T,
+    place: usize,
+    is_above: bool,
+) -> Option<usize>
+    ensures { IsNearest is_above (places_in (finder_of segmenter.now) T.Source.decode (T.units text)) place result }
+{
+    by_kind!(segmenter, held => near_by(held, text, place, is_above))
+}
+
+// That one by any kind of segmenter.
+fn near_by<T: CursorText, S: SegmenterOf<T::Source>>(
     segmenter: S,
     text: T,
     place: usize,
+    is_above: bool,
 ) -> Option<usize>
-    ensures { IsNearestBelow (places_of_units T.Source.decode (S.find segmenter) (T.units text)) place result }
+    ensures { IsNearest is_above (places_of_units T.Source.decode (S.find segmenter) (T.units text)) place result }
 {
-    BoundaryCursor::over(segmenter, text).previous_boundary(place)
+    let cursor = BoundaryCursor::over(segmenter, text);
+    if is_above {
+        cursor.next_boundary(place)
+    } else {
+        cursor.previous_boundary(place)
+    }
 }

@@ -4,11 +4,10 @@ ghost use Rattle.std.specs.Prelude.{◌≡◌, ◌+◌, ◌<◌, ◌^◌, ℕ, L
 ghost use Rattle.icu_segmenter.specs.Decoding.{utf8, utf16};
 ghost use Rattle.icu_segmenter.specs.Items.{Text};
 ghost use Rattle.icu_segmenter.specs.Wrapping.{TextLine};
-ghost use Rattle.icu_segmenter.specs.Paragraphs.{GivesParagraph, ParagraphsLeft};
-ghost use Rattle.icu_segmenter.specs.WrappedLines.{joined_units, paragraphs_of, utf16_lines_to_come, utf8_lines_to_come, wrapped_units, wrapper_measure, wrapper_rules};
+ghost use Rattle.icu_segmenter.specs.WrappedLines.{joined_units, utf16_lines_to_come, utf8_lines_to_come, wrapped_units, wrapper_measure, wrapper_rules};
 ghost use Rattle.icu_segmenter.specs.Filled.{IsFilled, TakesFirst};
 ghost use Rattle.seg_wrap.specs.declared.wrap.wrapping.Span.{Span};
-ghost use Rattle.yengatomu_segmenter.specs.Balanced.{IsParagraphBehind};
+ghost use Rattle.yengatomu_segmenter.specs.Balanced.{GivesFirst, IsParagraphBehind};
 ghost use Rattle.yengatomu_segmenter.specs.Finders.{finder_of};
 ghost use Rattle.yengatomu_segmenter.specs.Wrapped.{GivesLine, ends_from, widths_of, wrapped_behind};
 
@@ -123,8 +122,8 @@ pub fn wrapper_of(segmenter: &Segmenter) -> Option<LineWrapper<'_>>
     ensures lines { MatchOption result ((decode : List ℕ → Text) (columns : ℕ) (units : List ℕ) (from : ℕ) → wrapped_behind (finder_of segmenter.now) decode columns units from ≡ [])
         (λ wrapper. (decode : List ℕ → Text) (columns : ℕ) (units : List ℕ) (from : ℕ) → wrapped_behind (finder_of segmenter.now) decode columns units from ≡ wrapped_units decode (wrapper_measure wrapper) (wrapper_rules wrapper) columns (drop from units)) }
     ensures paragraphs { MatchOption result ((decode : List ℕ → Text) (columns : ℕ) (units : List ℕ) (from : ℕ) → IsParagraphBehind (finder_of segmenter.now) decode columns units from [])
-        (λ wrapper. (decode : List ℕ → Text) (columns : ℕ) (units : List ℕ) (from : ℕ) (spans : List Span) (after : ParagraphsLeft)
-        → GivesParagraph (paragraphs_of decode (wrapper_measure wrapper) (wrapper_rules wrapper) columns (drop from units)) spans after
+        (λ wrapper. (decode : List ℕ → Text) (columns : ℕ) (units : List ℕ) (from : ℕ) (spans : List Span)
+        → GivesFirst decode (wrapper_measure wrapper) (wrapper_rules wrapper) columns (drop from units) spans
         → IsParagraphBehind (finder_of segmenter.now) decode columns units from spans) }
 {
     match segmenter {

@@ -8,14 +8,14 @@ ghost use Rattle.seg_lines.specs.Between.{between};
 ghost use Rattle.seg_wrap.specs.Wrapping.{rest_from};
 
 use crate::wrap::LineWrapper;
-use crate::wrap::balanced::BalancedParagraphs;
+use crate::wrap::paragraphs::{ParagraphStyle, Paragraphs};
 use crate::wrap::wrapping::{Room, Wrapping};
 use seg_text::indices::Utf16Indices;
 use std::alloc::AllocError;
 use std::fmt;
 
 impl<'data> LineWrapper<'data> {
-    ghost use Rattle.seg_wrap.specs.WrappedLines.{joined_units, paragraphs_of, utf16_lines_to_come, wrapped_units, wrapped_within, wrapper_measure, wrapper_rules};
+    ghost use Rattle.seg_wrap.specs.WrappedLines.{AreParagraphsOf, joined_units, utf16_lines_to_come, wrapped_units, wrapped_within, wrapper_measure, wrapper_rules};
 
     /// The lines of possibly ill-formed UTF-16, each of at most these columns unless it is one segment. A surrogate that stands
     /// alone is as wide as U+FFFD, and stays as it is in the lines. Takes no memory.
@@ -40,18 +40,18 @@ impl<'data> LineWrapper<'data> {
         }
     }
 
-    /// The lines of possibly ill-formed UTF-16, balanced paragraph by paragraph. A surrogate that stands alone is as wide as U+FFFD. Takes no
+    /// The lines of possibly ill-formed UTF-16, chosen paragraph by paragraph. A surrogate that stands alone is as wide as U+FFFD. Takes no
     /// memory.
-    pub fn balanced_utf16<'s>(
+    pub fn paragraphs_utf16<'s>(
         self,
         units: &'s [u16],
-        columns: u32,
-    ) -> BalancedParagraphs<'data, Utf16Indices<'s>>
-        ensures { result ≡ paragraphs_of utf16 (wrapper_measure self.entry) (wrapper_rules self.entry) columns units.now }
+        style: ParagraphStyle,
+    ) -> Paragraphs<'data, Utf16Indices<'s>>
+        ensures { AreParagraphsOf utf16 (wrapper_measure self.entry) (wrapper_rules self.entry) style units.now result }
     {
         let mut breaks = self.lines.segment_utf16(units);
         let _start = breaks.next();
-        BalancedParagraphs::new(breaks, Utf16Indices::new(units), columns, self.measuring)
+        Paragraphs::new(breaks, Utf16Indices::new(units), self.measuring, style)
     }
 }
 

@@ -1,6 +1,6 @@
 //! Lines, wrapped to columns at any breaks.
 
-ghost use Rattle.std.specs.Prelude.{◌≡◌, ◌-◌, ◌≤◌, ◌∷◌, List, length, IfSome};
+ghost use Rattle.std.specs.Prelude.{◌≡◌, ◌-◌, ◌≤◌, ◌∷◌, List, false, length, IfSome};
 ghost use Rattle.seg_lines.specs.Lines.{lines_left};
 ghost use Rattle.seg_wrap.specs.Walk.{AreCuts, GivesLine, IsHeldPiece, IsFirstPiece, IsFirstSegment, line_at, lines_held, measure_of, rest_held, segment_at, segments_held};
 ghost use Rattle.seg_wrap.specs.Wrapping.{Cell, bytes_columns, columns_in, even, room_beside, lines_from, rest_from, segments_from, wrapped_lines};
@@ -24,6 +24,8 @@ pub struct Span {
     pub columns: u128,
     /// Whether it is the first of its paragraph.
     pub is_first: bool,
+    /// Whether a hyphen is shown behind it, which its columns count.
+    pub is_hyphenated: bool,
     /// Whether a line must end there.
     pub is_mandatory: bool,
 }
@@ -80,6 +82,7 @@ fn columns_beside(columns: usize, indent: &str) -> usize
 pub(crate) struct Piece {
     pub(crate) end: usize,
     pub(crate) extent: Extent,
+    pub(crate) is_hyphenated: bool,
     pub(crate) is_mandatory: bool,
 }
 
@@ -204,6 +207,7 @@ impl<'data, I: Cursor> Wrapping<'data, I> {
             end: line.end,
             columns: line.extent.columns,
             is_first,
+            is_hyphenated: false,
             is_mandatory: line.is_mandatory,
         })
     }
@@ -220,6 +224,7 @@ pub(crate) fn next_piece<I: Cursor>(
         ≡ segments_from (measure_of measuring.entry) (I.text after.old) (lines_left breaks.old) }
     ensures held { IsHeldPiece (measure_of measuring.entry) (I.text after.old) result (lines_left breaks.new) }
     ensures after { I.text after.new ≡ rest_held (I.text after.old) result }
+    ensures whole { IfSome result (λ piece. piece.is_hyphenated ≡ false) }
 {
     let found = next_break(breaks)?;
     let extent = measuring.extent_of(after.up_to(found.end));
@@ -227,6 +232,7 @@ pub(crate) fn next_piece<I: Cursor>(
     Some(Piece {
         end: found.end,
         extent,
+        is_hyphenated: false,
         is_mandatory: found.is_mandatory,
     })
 }

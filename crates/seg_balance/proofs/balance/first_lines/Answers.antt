@@ -1,5 +1,5 @@
 use Rattle.std.proofs.Common.{rules, refl}
-use Rattle.seg_balance.proofs.Table.{at-zero, room-by, step-by, table-firsts, table-start}
+use Rattle.seg_balance.proofs.Table.{at-zero, limit-by, room-by, step-by, table-firsts, table-start}
 use Rattle.seg_balance.proofs.balance.first_lines.Goals as goal
 
 pub starts-init : goal.starts-init
@@ -7,7 +7,8 @@ starts-init c = table-start _ _ _ _ (search rules) (search rules) (c.in_ok-resiz
 
 pub starts-preserved : goal.starts-preserved
 starts-preserved c =
-    step-by _ _ _ _ _ _ _ _ c.starts.invariant (search rules) (search rules) (search rules) c.first_line-least.ensures.least
+    step-by _ _ _ _ _ _ _ _ _ c.starts.invariant (search rules) (limit-by _ _ _ _ _ c.begins_paragraph.ensures c.of-columns.ensures) (search rules) (search rules)
+    c.first_line-least.ensures.least
 
 pub returns-clause-best : goal.returns-clause-best
 returns-clause-best c = table-firsts _ _ _ _ (at-zero _ _ _ _ _ (search rules) c.starts.invariant)
