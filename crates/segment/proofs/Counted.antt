@@ -8,12 +8,14 @@ use Rattle.segment_output.specs.Output.{Look, lines_at}
 use Rattle.segment_output.specs.Parts.{IsBegun, count_for, found_for, output_for, printed_behind, text_for}
 use Rattle.segment_text.specs.Preparation.{prepared}
 use Rattle.segment_output.specs.Segmenter.{segments_by}
-use Rattle.segment_output.specs.Balanced.{AppendsSome, IsBalancedOutput}
-use Rattle.segment_output.specs.Wrapped.{Wrapping, wrapped_output}
+use Rattle.segment_output.specs.Limited.{Bound, IsSetOutput}
+use Rattle.segment_output.specs.Paragraphs.{AppendsSome, Choosing, chosen_by}
+use Rattle.segment_output.specs.Wrapped.{wrapped_output}
 use Rattle.segment_output.specs.Wrapper.{wrapping_of}
 use Rattle.segment_output.proofs.JoinedCuts.{lines-at_zero}
 use Rattle.segment_text.specs.Size.{size_of}
-use Rattle.segment.specs.Job.{count_by, numbers_of, said_by, text_of, IsBegunBy, IsDoneBy, IsOutputOf, IsPrintedBy, IsPrintingOf, IsTally, IsWorkOutput}
+use Rattle.std.specs.Option.{option_map}
+use Rattle.segment.specs.Job.{bound_in, count_by, numbers_of, said_by, text_of, IsBegunBy, IsDoneBy, IsOutputOf, IsPrintedBy, IsPrintingOf, IsTally, IsWorkOutput}
 use Rattle.segment_text.specs.declared.fault.Fault.{Fault}
 use Rattle.segment_text.specs.declared.size.Size.{Size}
 use Rattle.segment_text.specs.declared.size.Tally.{Tally}
@@ -27,7 +29,8 @@ use Rattle.segment_output.specs.declared.segmenter.Segmenter.{Segmenter}
 use Rattle.segment_output.specs.declared.wrapper.Wrapper.{Wrapper}
 use Rattle.segment.specs.declared.job.Job.{Job}
 use Rattle.segment.specs.declared.job.Work.{Work}
-use Rattle.segment.specs.declared.job.Work.TheVariants.{Balance, Cut, Wrap}
+use Rattle.segment.specs.declared.job.ParagraphWork.{ParagraphWork}
+use Rattle.segment.specs.declared.job.Work.TheVariants.{Cut, Paragraphs, Wrap}
 
 module _ (job : Job) (name : Option (List ℕ)) where
   counted : (bytes : List ℕ) (old mid new : Option (List ℕ)) (numbers : Numbers) (tally : Tally) → numbers_of job.work ≡ Some numbers → IsTally job bytes tally
@@ -63,12 +66,12 @@ whole-found splitting (Some bytes) text shown count size old new (made, sized) i
     let is : shown ≡ text_for splitting bytes = is-shown ∙ made in
     (counted ∙ ap (count_for splitting.printing) is, sized, subst (λ (text : List ℕ). Appends old new (printed_behind splitting.printing 0 text)) is written)
 
-pub whole-balanced : (preparation : Preparation) (wrapping : Wrapping) (read : Option (List ℕ)) (text shown : List ℕ) (count : ℕ) (size : Size) (old new : Option (List ℕ))
-    → IfSome read (λ bytes. (text ≡ prepared preparation bytes) × (size ≡ size_of bytes)) → shown ≡ text → count ≡ 0 → AppendsSome old new (IsBalancedOutput wrapping shown)
-    → IfSome read (λ bytes. (count ≡ 0) × (size ≡ size_of bytes) × AppendsSome old new (IsBalancedOutput wrapping (prepared preparation bytes)))
-whole-balanced preparation wrapping None text shown count size old new made is-shown none printed = tt
-whole-balanced preparation wrapping (Some bytes) text shown count size old new (made, sized) is-shown none printed =
-    (none, sized, subst (λ (text : List ℕ). AppendsSome old new (IsBalancedOutput wrapping text)) (is-shown ∙ made) printed)
+pub whole-paragraphs : (preparation : Preparation) (choosing : Choosing) (bound : Option Bound) (read : Option (List ℕ)) (text shown : List ℕ) (count : ℕ) (size : Size) (old new : Option (List ℕ))
+    → IfSome read (λ bytes. (text ≡ prepared preparation bytes) × (size ≡ size_of bytes)) → shown ≡ text → count ≡ 0 → AppendsSome old new (IsSetOutput choosing bound shown)
+    → IfSome read (λ bytes. (count ≡ 0) × (size ≡ size_of bytes) × AppendsSome old new (IsSetOutput choosing bound (prepared preparation bytes)))
+whole-paragraphs preparation choosing bound None text shown count size old new made is-shown none printed = tt
+whole-paragraphs preparation choosing bound (Some bytes) text shown count size old new (made, sized) is-shown none printed =
+    (none, sized, subst (λ (text : List ℕ). AppendsSome old new (IsSetOutput choosing bound text)) (is-shown ∙ made) printed)
 
 pub begun-whole : (P Q : Type 0) (r : Result Tally Fault) → IfErr r (λ fault. IsReadFault fault → P) → IfErr r (λ fault. IsReadFault fault → P ⊎ Q)
 begun-whole P Q (Ok tally) is = tt
@@ -84,14 +87,14 @@ module _ (file : Option (List ℕ)) where
   printed-split (Cut segmenter style) (Lines one) text is = absurd is
   printed-split (Wrap wrapper) (Segments one how name) text is = absurd is
   printed-split (Wrap wrapper) (Lines one) text is = ap (λ (wrapper : Wrapper). wrapped_output (wrapping_of wrapper) text) is
-  printed-split (Balance wrapper) printing text is = absurd is
+  printed-split (Paragraphs work) printing text is = absurd is
 
   count-split : (work : Work) (printing : Printing) (text : List ℕ) → IsPrintingOf work file printing → count_for printing text ≡ count_by work text
   count-split (Cut segmenter style) (Segments one how name) text (same, is, named) = ap (λ (segmenter : Segmenter). length (segments_by segmenter text)) same
   count-split (Cut segmenter style) (Lines one) text is = absurd is
   count-split (Wrap wrapper) (Segments one how name) text is = absurd is
   count-split (Wrap wrapper) (Lines one) text is = refl
-  count-split (Balance wrapper) printing text is = absurd is
+  count-split (Paragraphs work) printing text is = absurd is
 
   pub all-split : (job : Job) (splitting : Splitting) (read old new : Option (List ℕ)) (r : Result Tally Fault) → IsDoneBy job file splitting
       → IfOk r (λ tally. IfSome read (λ bytes. (tally.segments ≡ found_for splitting bytes) × (tally.size ≡ size_of bytes) × Appends old new (output_for splitting bytes)))
@@ -105,13 +108,13 @@ module _ (file : Option (List ℕ)) where
       ((count ∙ ap (count_for splitting.printing) text ∙ count-split job.work splitting.printing (text_of job bytes) is, size), (output_for splitting bytes, printed, written))
 
   -- and of balanced lines all is written at once
-  pub all-balanced : (job : Job) (wrapper : Wrapper) (read old new : Option (List ℕ)) (r : Result Tally Fault) → job.work ≡ Balance wrapper
+  pub all-paragraphs : (job : Job) (work : ParagraphWork) (read old new : Option (List ℕ)) (r : Result Tally Fault) → job.work ≡ Paragraphs work
       → IfOk r (λ tally. IfSome read (λ bytes. (tally.segments ≡ 0) × (tally.size ≡ size_of bytes)
-      × AppendsSome old new (IsBalancedOutput (wrapping_of wrapper) (prepared job.preparation bytes))))
+      × AppendsSome old new (IsSetOutput (chosen_by work.wrapper work.fit) (option_map bound_in work.limit) (prepared job.preparation bytes))))
       → IfOk r (λ tally. IfSome read (λ bytes. IsTally job bytes tally × AppendsSome old new (IsPrintedBy job file bytes)))
-  all-balanced job wrapper read old new (Err fault) is all = tt
-  all-balanced job wrapper None old new (Ok tally) is all = tt
-  all-balanced job wrapper (Some bytes) old new (Ok tally) is (count, size, written) = rw is ((count, size), written)
+  all-paragraphs job work read old new (Err fault) is all = tt
+  all-paragraphs job work None old new (Ok tally) is all = tt
+  all-paragraphs job work (Some bytes) old new (Ok tally) is (count, size, written) = rw is ((count, size), written)
 
   pub begun-split : (job : Job) (splitting : Splitting) (from to old new : Option (List ℕ)) (P : Type 0) (r : Result Tally Fault) → IsDoneBy job file splitting
       → IfErr r (λ fault. IsReadFault fault → P ⊎ IsBegun splitting from to old new) → IfErr r (λ fault. IsReadFault fault → P ⊎ IsBegunBy job file from to old new)

@@ -19,7 +19,10 @@ use Rattle.segment_output.specs.declared.segmenter.Kind.{Kind}
 use Rattle.segment_output.specs.declared.segmenter.Kind.TheVariants as kind
 use Rattle.segment.specs.declared.command.Request.{Request}
 use Rattle.segment.specs.declared.command.Task.{Task}
-use Rattle.segment.specs.declared.command.Task.TheVariants.{Balance, Cut, Wrap}
+use Rattle.segment.specs.declared.command.Task.TheVariants.{Cut, Paragraphs, Wrap}
+use Rattle.seg_wrap.specs.declared.wrap.paragraphs.Fit.{Fit}
+use Rattle.seg_wrap.specs.declared.wrap.paragraphs.Fit.TheVariants.{Balanced, First}
+use Rattle.segment_text.specs.declared.limit.Limit.{Limit}
 use Rattle.segment_text.specs.declared.preparation.Preparation.{Preparation}
 use Rattle.segment_output.specs.declared.wrapper.Width.{Width}
 use Rattle.segment_output.specs.declared.output.Numbers.{Numbers}
@@ -148,9 +151,29 @@ IsStyle found Escaped =
     IsFlag found (codes "count") false × IsFlag found (codes "offsets") false × IsFlag found (codes "null") false
     × IsFlag found (codes "json") false × IsFlag found (codes "raw") false
 
--- both indents have as many columns
-abbrev pub HasEvenIndents : Width → Type 0
-HasEvenIndents width = bytes_columns width.first_indent.now ≡ bytes_columns width.indent.now
+-- lines are chosen as it is named: balanced, or each filled as far as it goes
+abbrev pub IsChosen : Found → Fit → Type 0
+IsChosen found Balanced = IsFlag found (codes "balanced") true
+IsChosen found First = IsFlag found (codes "balanced") false
+
+-- lines are wrapped so: paragraph by paragraph where they are balanced, words are hyphenated, or there may be only so many
+abbrev pub IsWrapping : Found → Width → Option Limit → Task → Type 0
+IsWrapping found width limit (Cut kind style engine) = ⊥
+IsWrapping found width limit (Wrap to) =
+    (to ≡ width) × IsFlag found (codes "balanced") false × (first_value found (codes "hyphenate") ≡ None) × (limit ≡ None)
+IsWrapping found width limit (Paragraphs to setting) = (to ≡ width) × IsChosen found setting.fit × (setting.limit ≡ limit)
+
+-- what ends the last line that there may be: what is named, which has no control characters, and leaves a column or more
+abbrev pub IsPlaceholder : Found → ℕ → List ℕ → Type 0
+IsPlaceholder found columns placeholder = (placeholder ≡ unwrap_or (first_value found (codes "placeholder")) (codes " [...]")) × IsIndent columns placeholder
+
+-- there may be as many lines as are named, one at least
+abbrev pub IsLimit : Found → ℕ → Option Limit → Type 0
+IsLimit found columns limit =
+    (one_text found (codes "max-lines") ≡ None → limit ≡ None)
+    × ((digits : List ℕ) → one_text found (codes "max-lines") ≡ Some digits → IsNumeral 10 digits → digits_value 10 digits < 2 ^ 64
+    → option_map (λ limit. limit.lines) limit ≡ Some (digits_value 10 digits))
+    × IfSome limit (λ limit. (0 < limit.lines) × IsPlaceholder found columns limit.placeholder.now)
 
 -- a task is the one that is named
 abbrev pub IsTask : List ℕ → Found → Task → Type 0
@@ -159,8 +182,8 @@ IsTask word found (Cut kind style engine) =
     × IsFlag found (codes "words") (is_alone kind)
     × IsStyle found style
     × IsEngine (first_value found (codes "engine")) engine
-IsTask word found (Wrap width) = (word ≡ codes "wrap") × IsFlag found (codes "balanced") false × IsWidth found width
-IsTask word found (Balance width) = (word ≡ codes "wrap") × IsFlag found (codes "balanced") true × IsWidth found width × HasEvenIndents width
+IsTask word found task =
+    (word ≡ codes "wrap") × ((width : Width) × IsWidth found width × (limit : Option Limit) × IsLimit found width.columns limit × IsWrapping found width limit task)
 
 -- all values of an argument
 abbrev pub values_of : Found → List ℕ → List (List ℕ)

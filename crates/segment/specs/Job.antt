@@ -1,17 +1,20 @@
 -- What a job writes of a text, and which one is asked for.
-use Rattle.std.specs.Prelude.{◌≡◌, ℕ, if◌then◌else◌, false, Option, None, Some, List, [], ◌++◌, length}
+use Rattle.std.specs.Prelude.{◌≡◌, ℕ, if◌then◌else◌, false, Option, None, Some, List, [], ◌++◌, length, string_bytes}
 use Rattle.std.specs.Option.{option_map, option_map_or}
 use Rattle.icu_segmenter.specs.ScriptWords.{ScriptWords}
 use Rattle.icu_segmenter.specs.WordSets.{Words}
 use Rattle.icu_segmenter.specs.declared.options.LineBreakOptions.{LineBreakOptions}
+use Rattle.seg_hyphens.specs.declared.patterns.HyphenationPatterns.{HyphenationPatterns}
 use Rattle.segment_output.specs.Output.{count_line, lines_of}
 use Rattle.segment_output.specs.Parts.{IsBegun}
 use Rattle.segment_text.specs.Preparation.{prepared}
 use Rattle.segment_output.specs.Segmenter.{segments_by, IsAskedOf}
 use Rattle.segment_text.specs.Size.{size_of}
-use Rattle.segment_output.specs.Balanced.{IsBalancedOutput}
+use Rattle.segment_output.specs.Limited.{Bound, IsSetOutput, bound_of}
+use Rattle.segment_output.specs.Paragraphs.{chosen_by}
 use Rattle.segment_output.specs.Wrapped.{wrapped_output}
 use Rattle.segment_output.specs.Wrapper.{wrapping_of, IsAskedWrapper}
+use Rattle.segment_output.specs.declared.wrapper.Wrapper.{Wrapper}
 use Rattle.segment_output.specs.declared.segmenter.Engine.{Engine}
 use Rattle.segment_output.specs.declared.segmenter.Kind.{Kind}
 use Rattle.segment.specs.declared.command.Request.{Request}
@@ -19,9 +22,11 @@ use Rattle.segment.specs.declared.command.Task.TheVariants as task
 use Rattle.segment_output.specs.declared.wrapper.Width.{Width}
 use Rattle.segment_text.specs.declared.size.Tally.{Tally}
 use Rattle.segment_output.specs.declared.output.Numbers.{Numbers}
+use Rattle.segment_output.specs.declared.wrapper.limited.Setting.{Setting}
 use Rattle.segment.specs.declared.job.Job.{Job}
+use Rattle.segment.specs.declared.job.OwnedLimit.{OwnedLimit}
 use Rattle.segment.specs.declared.job.Work.{Work}
-use Rattle.segment.specs.declared.job.Work.TheVariants.{Balance, Cut, Wrap}
+use Rattle.segment.specs.declared.job.Work.TheVariants.{Cut, Paragraphs, Wrap}
 use Rattle.segment_output.specs.declared.output.Style.TheVariants.{Counted}
 use Rattle.segment_output.specs.declared.parts.Printing.{Printing}
 use Rattle.segment_output.specs.declared.parts.Printing.TheVariants.{Segments, Lines}
@@ -29,11 +34,15 @@ use Rattle.segment_output.specs.declared.parts.Splitting.{Splitting}
 
 -- ---- a text to which the work is done
 
+-- how many lines there may be
+abbrev pub bound_in : OwnedLimit → Bound
+bound_in limit = record { lines = limit.lines; placeholder = string_bytes limit.placeholder }
+
 -- what is written of it, with the name of its file where that is said
 abbrev pub IsWorkOutput : Work → Option (List ℕ) → List ℕ → List ℕ → Type 0
 IsWorkOutput (Cut segmenter style) file text written = written ≡ lines_of (record { style = style; file = file }) text (segments_by segmenter text)
 IsWorkOutput (Wrap wrapper) file text written = written ≡ wrapped_output (wrapping_of wrapper) text
-IsWorkOutput (Balance wrapper) file text written = IsBalancedOutput (wrapping_of wrapper) text written
+IsWorkOutput (Paragraphs work) file text written = IsSetOutput (chosen_by work.wrapper work.fit) (option_map bound_in work.limit) text written
 
 -- the numbers beside that of the segments, where these are only counted
 abbrev pub numbers_of : Work → Option Numbers
@@ -44,7 +53,7 @@ numbers_of work = None
 abbrev pub count_by : Work → List ℕ → ℕ
 count_by (Cut segmenter style) text = length (segments_by segmenter text)
 count_by (Wrap wrapper) text = 0
-count_by (Balance wrapper) text = 0
+count_by (Paragraphs work) text = 0
 
 -- what is written part by part is what the work writes
 abbrev pub IsPrintingOf : Work → Option (List ℕ) → Printing → Type 0
@@ -92,16 +101,23 @@ AreOptions request options =
     (options.strictness ≡ request.strictness) × (options.word_option ≡ request.word_option)
     × (option_map (λ language. language.now) options.content_locale ≡ request.language)
 
--- work is the one that a request asks for, with the words of scripts, and abbreviations, if there are some
-abbrev pub IsAskedWork : Request → ScriptWords → Option Words → Work → Type 0
-IsAskedWork request words abbreviations (Cut segmenter style) =
+-- a wrapper is the one to a width that a request asks for, with the words of scripts
+abbrev pub IsWrapperFor : Request → ScriptWords → Width → Wrapper → Type 0
+IsWrapperFor request words width wrapper = (options : LineBreakOptions) × AreOptions request options × IsAskedWrapper width options words wrapper
+
+-- work is the one that a request asks for, with the words of scripts, abbreviations, and patterns of hyphenation, if there are some
+abbrev pub IsAskedWork : Request → ScriptWords → Option Words → Option HyphenationPatterns → Work → Type 0
+IsAskedWork request words abbreviations patterns (Cut segmenter style) =
     (kind : Kind) × (engine : Engine) × (request.task ≡ task.Cut kind style engine)
     × ((options : LineBreakOptions) × AreOptions request options × IsAskedOf kind engine options words abbreviations segmenter)
-IsAskedWork request words abbreviations (Wrap wrapper) =
-    (width : Width) × (request.task ≡ task.Wrap width) × ((options : LineBreakOptions) × AreOptions request options × IsAskedWrapper width options words wrapper)
-IsAskedWork request words abbreviations (Balance wrapper) =
-    (width : Width) × (request.task ≡ task.Balance width) × ((options : LineBreakOptions) × AreOptions request options × IsAskedWrapper width options words wrapper)
+IsAskedWork request words abbreviations patterns (Wrap wrapper) =
+    (width : Width) × (request.task ≡ task.Wrap width) × IsWrapperFor request words width wrapper
+IsAskedWork request words abbreviations patterns (Paragraphs work) =
+    (width : Width) × (setting : Setting) × (request.task ≡ task.Paragraphs width setting)
+    × IsWrapperFor request words width work.wrapper × (work.wrapper.patterns ≡ patterns)
+    × (work.fit ≡ setting.fit) × (option_map bound_in work.limit ≡ option_map bound_of setting.limit)
 
 -- a job is the one that a request asks for
-abbrev pub IsAsked : Request → ScriptWords → Option Words → Job → Type 0
-IsAsked request words abbreviations job = (job.preparation ≡ request.preparation) × (job.names_files ≡ false) × IsAskedWork request words abbreviations job.work
+abbrev pub IsAsked : Request → ScriptWords → Option Words → Option HyphenationPatterns → Job → Type 0
+IsAsked request words abbreviations patterns job =
+    (job.preparation ≡ request.preparation) × (job.names_files ≡ false) × IsAskedWork request words abbreviations patterns job.work

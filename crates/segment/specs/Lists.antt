@@ -5,7 +5,7 @@ use Rattle.icu_segmenter.specs.WordSets.{Words}
 use Rattle.segment_output.specs.declared.segmenter.Kind.{Kind}
 use Rattle.segment_output.specs.declared.segmenter.Kind.TheVariants as kind
 use Rattle.segment.specs.declared.command.Task.{Task}
-use Rattle.segment.specs.declared.command.Task.TheVariants.{Balance, Cut, Wrap}
+use Rattle.segment.specs.declared.command.Task.TheVariants.{Cut, Paragraphs, Wrap}
 use Rattle.segment.specs.declared.lists.Choice.{Choice}
 use Rattle.segment.specs.declared.lists.Choice.TheVariants.{Nothing, WithoutCj, All}
 
@@ -20,7 +20,7 @@ choice_of kind.Lines = WithoutCj
 abbrev pub choice_by : Task → Choice
 choice_by (Cut kind style engine) = choice_of kind
 choice_by (Wrap width) = WithoutCj
-choice_by (Balance width) = WithoutCj
+choice_by (Paragraphs width setting) = WithoutCj
 
 -- a script's words are those of the list that bears its name, where these are known
 abbrev pub IsListed : (List ℕ → Option (Option Words)) → List ℕ → Option Words → Type 0

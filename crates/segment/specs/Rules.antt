@@ -10,7 +10,7 @@ use Rattle.segment_output.specs.declared.segmenter.Segmenter.TheVariants.{Ruled}
 use Rattle.segment.specs.Command.{IsFlag, IsStyle}
 use Rattle.segment.specs.declared.job.Job.{Job}
 use Rattle.segment.specs.declared.job.Work.{Work}
-use Rattle.segment.specs.declared.job.Work.TheVariants.{Balance, Cut, Wrap}
+use Rattle.segment.specs.declared.job.Work.TheVariants.{Cut, Paragraphs, Wrap}
 use Rattle.segment.specs.declared.rules.RulesRequest.{RulesRequest}
 
 -- a request has the file and the style that are named, and leaves segments out and shows the machine where it is asked for
@@ -31,7 +31,7 @@ IsByRules rules tokens segmenter = ⊥
 abbrev pub IsWorkByRules : RowRules → Bool → Style → Work → Type 0
 IsWorkByRules rules tokens style (Cut segmenter how) = IsByRules rules tokens segmenter × (how ≡ style)
 IsWorkByRules rules tokens style (Wrap wrapper) = ⊥
-IsWorkByRules rules tokens style (Balance wrapper) = ⊥
+IsWorkByRules rules tokens style (Paragraphs setting) = ⊥
 
 -- and nothing is done to them first
 abbrev pub IsJobByRules : RowRules → Bool → Style → Job → Type 0

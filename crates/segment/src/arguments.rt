@@ -16,8 +16,8 @@ enum Value<'a> {
     AnyText(&'a str),
     // A text each time that it is given.
     Texts(&'a str),
-    // A number of columns.
-    Columns,
+    // A number, and what help calls it.
+    Number(&'a str),
     // One of these words.
     OneOf(&'a [&'a str]),
     // One of these words each time that it is given.
@@ -154,12 +154,15 @@ const RULED: &[Argument<'static>] = arguments! {
 
 // How lines are wrapped.
 const WRAPPED: &[Argument<'static>] = arguments! {
-    "width" Columns: "The columns that a line has at most, which then don't stand before files";
-    "tabs" Columns: "Write spaces for each tab, up to the next multiple of so many columns [default: 8]";
+    "width" Number("COLUMNS"): "The columns that a line has at most, which then don't stand before files";
+    "tabs" Number("COLUMNS"): "Write spaces for each tab, up to the next multiple of so many columns [default: 8]";
     "join" Flag: "Join the lines between blank lines first, each two by a space";
     "balanced" Flag: "Leave the least ragged edge, paragraph by paragraph";
+    "hyphenate" Text("FILE"): "Hyphenate words by the patterns of a file, as /usr/share/hyphen/hyph_en_US.dic";
     "indent" AnyText("TEXT"): "What stands before each line, whose columns count";
     "first-indent" AnyText("TEXT"): "What stands before the first line of each paragraph in its place";
+    "max-lines" Number("LINES"): "Write at most so many lines";
+    "placeholder" AnyText("TEXT"): "What ends the last of these where there are more [default: ' [...]']", with &["max-lines"];
     "break-words" Flag: "Break what is wider than the columns between clusters";
     "by-cluster" Flag: "Count the columns of each cluster, and not of each character";
 };
@@ -318,15 +321,14 @@ fn action_of(value: Value<'_>) -> ArgAction {
     match value {
         Value::Flag => ArgAction::SetTrue,
         Value::Texts(_) | Value::EachOf(_) => ArgAction::Append,
-        Value::Text(_) | Value::AnyText(_) | Value::Columns | Value::OneOf(_) => ArgAction::Set,
+        Value::Text(_) | Value::AnyText(_) | Value::Number(_) | Value::OneOf(_) => ArgAction::Set,
     }
 }
 
 // What help calls the value.
 fn value_name<'a>(argument: &Argument<'a>) -> &'a str {
     match argument.value {
-        Value::Text(name) | Value::AnyText(name) | Value::Texts(name) => name,
-        Value::Columns => "COLUMNS",
+        Value::Text(name) | Value::AnyText(name) | Value::Texts(name) | Value::Number(name) => name,
         Value::Flag | Value::OneOf(_) | Value::EachOf(_) => argument.name,
     }
 }
@@ -335,7 +337,7 @@ fn parser_of<'a>(value: Value<'a>) -> ValueParser<'a> {
     match value {
         Value::Flag => value_parser!(bool),
         Value::Text(_) | Value::AnyText(_) | Value::Texts(_) => value_parser!(String),
-        Value::Columns => value_parser!(usize),
+        Value::Number(_) => value_parser!(usize),
         Value::OneOf(words) | Value::EachOf(words) => words.into(),
     }
 }

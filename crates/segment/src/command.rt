@@ -6,17 +6,18 @@ ghost use Rattle.std.specs.Str.{str_to_ascii_lowercase};
 ghost use Rattle.icu_segmenter.specs.declared.provider.ComplexScript.{ComplexScript as AnyScript};
 ghost use Rattle.clap.specs.Matches.{found_of};
 ghost use Rattle.segment_output.specs.declared.segmenter.Kind.{Kind as AnyKind};
-ghost use Rattle.segment.specs.declared.command.Task.TheVariants.{Balance};
-ghost use Rattle.segment.specs.Command.{is_alone, is_control, kind_word, language_part, strictness_word, word_break_word, ArePaired, HasEvenIndents, HasScriptWord, IsChoice, IsEngine, IsRequest, IsStyle, IsTask, IsIndent, IsWidth, AreColumns, AreNumbers, AreTabs, IsPreparation};
+ghost use Rattle.segment.specs.Command.{is_alone, is_control, kind_word, language_part, strictness_word, word_break_word, ArePaired, HasScriptWord, IsChoice, IsEngine, IsRequest, IsStyle, IsTask, IsIndent, IsLimit, IsWrapping, IsWidth, AreColumns, AreNumbers, AreTabs, IsPreparation};
 
 use anyhow::{Context, Result, bail, ensure};
 use clap::ArgMatches;
 use icu_segmenter::options::{LanguageIdentifier, LineBreakStrictness, LineBreakWordOption};
 use icu_segmenter::provider::ComplexScript;
-use icu_segmenter::wrap::utf8_columns;
+use icu_segmenter::wrap::{Fit, utf8_columns};
 use segment_output::output::{Numbers, Style};
 use segment_output::segmenter::{Engine, Kind};
 use segment_output::wrapper::Width;
+use segment_output::wrapper::limited::Setting;
+use segment_text::limit::Limit;
 use segment_text::preparation::Preparation;
 
 /// What is done to a text.
@@ -26,8 +27,8 @@ pub enum Task<'a> {
     Cut(Kind, Style, Engine),
     /// Its lines are wrapped.
     Wrap(Width<'a>),
-    /// Its lines are balanced.
-    Balance(Width<'a>),
+    /// Its lines are chosen paragraph by paragraph.
+    Paragraphs(Width<'a>, Setting<'a>),
 }
 
 /// What the command line asks for.
@@ -75,8 +76,7 @@ const DEFAULT_COLUMNS: usize = 80;
 const DEFAULT_TABS: usize = 8;
 
 /// What the arguments of a kind of segments ask for. The errors are a word that isn't a kind, lines or tabs without columns, an indent that
-/// leaves none or has control characters, balanced lines whose indents differ in columns, a language that isn't one, a dictionary without a
-/// script, and a script that is named twice.
+/// leaves none or has control characters, no line or a placeholder like such an indent, a language that isn't one, a dictionary without a script, and a script that is named twice.
 pub fn request_of<'a>(kind: &str, matches: &ArgMatches<'a>) -> Result<Request<'a>>
     ensures { IfOk result (IsRequest kind.now (found_of matches.now)) }
 {
@@ -131,27 +131,48 @@ fn task_of<'a>(kind: &str, matches: &ArgMatches<'a>) -> Result<Task<'a>>
 {
     if kind == "wrap" {
         let width = width_of(matches)?;
-        return match matches.get_flag("balanced") {
-            true => balanced_to(width),
-            false => Ok(Task::Wrap(width)),
-        };
+        let limit = limit_of(matches, width.columns)?;
+        return Ok(wrapped_to(width, limit, matches));
     }
     let kind = kind_of(kind, matches.get_flag("words"))?;
     let engine = engine_of(matches.get_str("engine"))?;
     Ok(Task::Cut(kind, style_of(matches), engine))
 }
 
-// The error is indents of different columns.
-fn balanced_to(width: Width<'_>) -> Result<Task<'_>>
-    ensures { IfOk result (λ task. (task ≡ Balance width.entry) × HasEvenIndents width.entry) }
+// How lines are wrapped to a width, as many as there may be.
+fn wrapped_to<'a>(width: Width<'a>, limit: Option<Limit<'a>>, matches: &ArgMatches<'a>) -> Task<'a>
+    ensures { IsWrapping (found_of matches.now) width.entry limit.entry result }
 {
-    let first = utf8_columns(width.first_indent.as_bytes());
-    let others = utf8_columns(width.indent.as_bytes());
+    if matches.get_flag("balanced") {
+        let fit = Fit::Balanced;
+        Task::Paragraphs(width, Setting { fit, limit })
+    } else if matches.get_str("hyphenate").is_some() || limit.is_some() {
+        let fit = Fit::First;
+        Task::Paragraphs(width, Setting { fit, limit })
+    } else {
+        Task::Wrap(width)
+    }
+}
+
+// How many lines there may be. The errors are none, a placeholder that leaves no column, and one that has control characters.
+fn limit_of<'a>(matches: &ArgMatches<'a>, columns: usize) -> Result<Option<Limit<'a>>>
+    ensures { IfOk result (IsLimit (found_of matches.now) columns) }
+{
+    let lines: Option<usize> = matches.get_one("max-lines");
+    let Some(lines) = lines else {
+        return Ok(None);
+    };
+    ensure!(lines > 0, "there is at least 1 line");
+    let placeholder = matches.get_str("placeholder").unwrap_or(" [...]");
     ensure!(
-        first == others,
-        "'--balanced' needs indents of as many columns each"
+        !has_control(placeholder.as_bytes()),
+        "a placeholder has no tabs nor other control characters"
     );
-    Ok(Task::Balance(width))
+    ensure!(
+        utf8_columns(placeholder.as_bytes()) < columns as u128,
+        "lines have at least 1 column beside a placeholder"
+    );
+    Ok(Some(Limit { lines, placeholder }))
 }
 
 // The errors are a line without columns, and an indent that leaves none or has control characters.

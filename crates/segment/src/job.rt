@@ -3,16 +3,19 @@ ghost use Rattle.std.specs.Prelude.{◌≡◌, IfOk};
 ghost use Rattle.std.specs.Option.{option_map};
 ghost use Rattle.icu_segmenter.specs.Abbreviations.{abbreviations_of};
 ghost use Rattle.icu_segmenter.specs.ScriptWords.{script_words};
-ghost use Rattle.segment_output.specs.Wrapper.{IsAskedWrapper};
-ghost use Rattle.segment.specs.Job.{numbers_of, said_by, AreOptions, IsAsked, IsAskedWork};
+ghost use Rattle.segment_output.specs.Limited.{bound_of};
+ghost use Rattle.segment.specs.Job.{numbers_of, said_by, AreOptions, IsAsked, IsAskedWork, IsWrapperFor, bound_in};
 
 use crate::command::{Request, Task};
 use anyhow::Result;
 use icu_segmenter::options::LineBreakOptions;
+use icu_segmenter::wrap::Fit;
 use segment_output::output::{Numbers, Style};
 use segment_output::segmenter::{Segmenter, segmenter_of};
 use segment_output::vocabulary::Vocabulary;
+use segment_output::wrapper::limited::Setting;
 use segment_output::wrapper::{Width, Wrapper, wrapper_of};
+use segment_text::limit::Limit;
 use segment_text::preparation::Preparation;
 use std::alloc::Global;
 
@@ -34,8 +37,60 @@ pub enum Work {
     Cut(Segmenter, Style),
     /// Its lines are wrapped.
     Wrap(Wrapper),
-    /// Its lines are balanced.
-    Balance(Wrapper),
+    /// Its lines are chosen paragraph by paragraph.
+    Paragraphs(ParagraphWork),
+}
+
+/// How paragraphs are set, with all that it takes.
+#[derive(Drop)]
+pub struct ParagraphWork {
+    /// What wraps their lines.
+    pub wrapper: Wrapper,
+    /// How lines are chosen.
+    pub fit: Fit,
+    /// How many lines there may be, if that is limited.
+    pub limit: Option<OwnedLimit>,
+}
+
+impl ParagraphWork {
+    /// How paragraphs are set.
+    pub fn setting(&self) -> Setting<'_>
+        ensures fit { result.fit ≡ self.now.fit }
+        ensures limit { option_map bound_of result.limit ≡ option_map bound_in self.now.limit }
+    {
+        Setting {
+            fit: self.fit,
+            limit: match &self.limit {
+                Some(limit) => Some(Limit {
+                    lines: limit.lines,
+                    placeholder: limit.placeholder.as_str(),
+                }),
+                None => None,
+            },
+        }
+    }
+}
+
+/// How many lines there may be.
+#[derive(Drop)]
+pub struct OwnedLimit {
+    /// How many lines.
+    pub lines: usize,
+    /// What ends the last of them where there are more.
+    pub placeholder: String,
+}
+
+// How many lines there may be, as a job keeps it. Fails only when out of memory.
+fn kept_limit(alloc: Global, limit: Option<Limit<'_>>) -> Result<Option<OwnedLimit>>
+    ensures { IfOk result (λ kept. option_map bound_in kept ≡ option_map bound_of limit.entry) }
+{
+    match limit {
+        Some(limit) => Ok(Some(OwnedLimit {
+            lines: limit.lines,
+            placeholder: String::from_str(alloc, limit.placeholder)?,
+        })),
+        None => Ok(None),
+    }
 }
 
 impl Job {
@@ -59,7 +114,7 @@ impl Job {
 
 /// What a request asks for, with these words where its kind of segments has some. Fails only when out of memory.
 pub fn job_of(alloc: Global, request: &Request<'_>, words: Vocabulary) -> Result<Job>
-    ensures { IfOk result (λ job. IsAsked request.now (script_words words.dictionaries) (option_map abbreviations_of words.abbreviations) job) }
+    ensures { IfOk result (λ job. IsAsked request.now (script_words words.dictionaries) (option_map abbreviations_of words.abbreviations) words.patterns job) }
 {
     let work = work_of(alloc, request, words)?;
     Ok(Job {
@@ -70,7 +125,7 @@ pub fn job_of(alloc: Global, request: &Request<'_>, words: Vocabulary) -> Result
 }
 
 fn work_of(alloc: Global, request: &Request<'_>, words: Vocabulary) -> Result<Work>
-    ensures { IfOk result (λ work. IsAskedWork request.now (script_words words.dictionaries) (option_map abbreviations_of words.abbreviations) work) }
+    ensures { IfOk result (λ work. IsAskedWork request.now (script_words words.dictionaries) (option_map abbreviations_of words.abbreviations) words.patterns work) }
 {
     match request.task {
         Task::Cut(kind, style, engine) => {
@@ -78,7 +133,14 @@ fn work_of(alloc: Global, request: &Request<'_>, words: Vocabulary) -> Result<Wo
             Ok(Work::Cut(segmenter, style))
         }
         Task::Wrap(width) => Ok(Work::Wrap(wrapper_by(alloc, width, request, words)?)),
-        Task::Balance(width) => Ok(Work::Balance(wrapper_by(alloc, width, request, words)?)),
+        Task::Paragraphs(width, setting) => {
+            let limit = kept_limit(alloc, setting.limit)?;
+            Ok(Work::Paragraphs(ParagraphWork {
+                wrapper: wrapper_by(alloc, width, request, words)?,
+                fit: setting.fit,
+                limit,
+            }))
+        }
     }
 }
 
@@ -89,13 +151,15 @@ fn wrapper_by(
     request: &Request<'_>,
     words: Vocabulary,
 ) -> Result<Wrapper>
-    ensures { IfOk result (λ wrapper. (options : _) × AreOptions request.now options × IsAskedWrapper width.entry options (script_words words.dictionaries) wrapper) }
+    ensures asked { IfOk result (λ wrapper. IsWrapperFor request.now (script_words words.dictionaries) width.entry wrapper) }
+    ensures patterns { IfOk result (λ wrapper. wrapper.patterns ≡ words.patterns) }
 {
     let Vocabulary {
         dictionaries,
         abbreviations: _,
+        patterns,
     } = words;
-    Ok(wrapper_of(alloc, width, options_of(request), dictionaries)?)
+    Ok(wrapper_of(alloc, width, options_of(request), dictionaries, patterns)?)
 }
 
 // The options of lines that are asked for.

@@ -39,7 +39,7 @@ pub fn choice_by(task: Task<'_>) -> Choice
         Task::Cut(Kind::Words { .. }, _, _) => Choice::All,
         Task::Cut(Kind::Lines, _, _) => Choice::WithoutCj,
         Task::Cut(_, _, _) => Choice::Nothing,
-        Task::Wrap(_) | Task::Balance(_) => Choice::WithoutCj,
+        Task::Wrap(_) | Task::Paragraphs(_, _) => Choice::WithoutCj,
     }
 }
 

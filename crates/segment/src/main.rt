@@ -10,6 +10,7 @@ mod files;
 mod folder;
 mod job;
 mod lists;
+mod patterns;
 mod rules;
 mod run;
 mod shown;
@@ -24,6 +25,7 @@ use command::{Columns, Request, columns_by, request_of};
 use dictionary::dictionaries_of;
 use files::run_all;
 use job::{Job, job_of};
+use patterns::patterns_of;
 use rules::{OwnRules, RulesRequest, job_by, rules_at, rules_request_of};
 use segment_output::vocabulary::Vocabulary;
 use std::env;
@@ -153,6 +155,7 @@ fn run_request(
     let words = Vocabulary {
         dictionaries: dictionaries_of(rt, request.task, matches)?,
         abbreviations,
+        patterns: patterns_of(rt, matches)?,
     };
     run_words(rt, request, words, matches)
 }

@@ -1,18 +1,17 @@
 //! The program, over any reader and writer.
 ghost use Rattle.std.specs.Prelude.{◌≡◌, ◌⊎◌, option_map, IfErr, IfOk, IfSome, OnOk};
 ghost use Rattle.std.specs.Io.KnownBytes.{Appends, IsAtEnd};
-ghost use Rattle.segment_output.specs.Balanced.{AppendsSome, IsBalancedOutput};
+ghost use Rattle.segment_output.specs.Limited.{IsSetOutput};
+ghost use Rattle.segment_output.specs.Paragraphs.{AppendsSome, chosen_by};
 ghost use Rattle.segment_text.specs.Fault.{IsReadFault};
 ghost use Rattle.segment_output.specs.Parts.{found_for, output_for};
 ghost use Rattle.segment_text.specs.Size.{size_of};
-ghost use Rattle.segment_output.specs.Wrapper.{wrapping_of};
 ghost use Rattle.segment_text.specs.Preparation.{prepared};
-ghost use Rattle.segment.specs.Job.{said_by, IsBegunBy, IsOutputOf, IsPrintedBy, IsTally};
+ghost use Rattle.segment.specs.Job.{said_by, IsBegunBy, IsOutputOf, IsPrintedBy, IsTally, bound_in};
 
-use crate::job::{Job, Work};
+use crate::job::{Job, ParagraphWork, Work};
 use segment_output::output::write_count;
 use segment_output::parts::{Printing, Splitting, print_parts};
-use segment_output::wrapper::Wrapper;
 use segment_text::fault::Fault;
 use segment_text::preparation::Preparation;
 use segment_text::size::{Size, Tally};
@@ -94,8 +93,8 @@ fn print_job<I: Read, O: Write>(
     let printing = match &job.work {
         Work::Cut(segmenter, style) => Printing::Segments(segmenter, *style, file),
         Work::Wrap(wrapper) => Printing::Lines(wrapper),
-        Work::Balance(wrapper) => {
-            return print_balanced(alloc, wrapper, preparation, input, out);
+        Work::Paragraphs(work) => {
+            return print_paragraphs(alloc, work, preparation, input, out);
         }
     };
     let splitting = Splitting {
@@ -128,21 +127,24 @@ fn print_whole<I: Read, O: Write>(
     }
 }
 
-// Writes the balanced lines of a text, all of which is read first.
-fn print_balanced<I: Read, O: Write>(
+// Writes the lines of the paragraphs of a text, all of which is read first.
+fn print_paragraphs<I: Read, O: Write>(
     alloc: Global,
-    wrapper: &Wrapper,
+    work: &ParagraphWork,
     preparation: Preparation,
     input: &mut I,
     out: &mut O,
 ) -> Result<Tally, Fault>
     ensures read_all { OnOk result (IsAtEnd (I.remaining input.new)) }
     ensures written { IfOk result (λ tally. IfSome (I.remaining input.old) (λ bytes. (tally.segments ≡ 0) × (tally.size ≡ size_of bytes)
-        × AppendsSome (O.contents out.old) (O.contents out.new) (IsBalancedOutput (wrapping_of wrapper.now) (prepared preparation bytes)))) }
+        × AppendsSome (O.contents out.old) (O.contents out.new) (IsSetOutput (chosen_by work.now.wrapper work.now.fit) (option_map bound_in work.now.limit) (prepared preparation bytes)))) }
     ensures unwritten { IfErr result (λ fault. IsReadFault fault → out.new ≡ out.old) }
 {
     let (text, size) = read_prepared(alloc, preparation, input)?;
-    match wrapper.print_balanced(alloc, text.as_slice(), out) {
+    match work
+        .wrapper
+        .print_set(alloc, work.setting(), text.as_slice(), out)
+    {
         Ok(()) => Ok(Tally { segments: 0, size }),
         Err(error) => Err(Fault::of_writing(error)),
     }

@@ -1,4 +1,4 @@
-pub mod BalancedLines
+pub mod GivenParagraphs
 pub mod BareLines
 pub mod BareObjects
 pub mod Gathered

@@ -1,5 +1,6 @@
-pub mod Balanced
+pub mod Paragraphs
 pub mod Gathered
+pub mod Limited
 pub mod Objects
 pub mod Output
 pub mod Parts

@@ -32,10 +32,11 @@ indented_line indents is_first bytes = printed_line (indent_in indents is_first)
 abbrev pub printed_lines : Indents → Bool → List TextLine → List ℕ
 printed_lines indents is_first lines = flat_map (λ line. indented_line indents (line.is_first && is_first) line.units) lines
 
--- how lines are wrapped: behind which indents, to how many columns, at the breaks of some rules, by which rules those that are wider are broken, if they
--- are, and how columns are counted
+-- how lines are wrapped: behind which indents, to how many columns, and to how many behind each indent, at the breaks of some rules, by which rules
+-- those that are wider are broken, if they are, and how columns are counted
 pub record Wrapping : Type 0 where
   pub indents : Indents
+  pub columns : ℕ
   pub room : Room
   pub lines : LineRules
   pub broken : Option LineRules

@@ -19,6 +19,7 @@ use Rattle.segment_output.specs.declared.wrapper.Wrapper.{Wrapper}
 abbrev pub wrapping_of : Wrapper → Wrapping
 wrapping_of wrapper = record {
   indents = record { first = wrapper.first_indent.items; others = wrapper.indent.items };
+  columns = wrapper.columns;
   room = wrapper.room;
   lines = owned_line_rules wrapper.lines.lines;
   broken = option_map (λ clusters. owned_line_rules clusters.lines) wrapper.clusters;
@@ -35,6 +36,7 @@ abbrev pub IsAskedWrapper : Width → LineBreakOptions → ScriptWords → Wrapp
 IsAskedWrapper width options words wrapper =
     wrapping_of wrapper ≡ record {
       indents = record { first = width.first_indent.now; others = width.indent.now };
+      columns = width.columns;
       room = room_beside width.columns width.first_indent.now width.indent.now;
       lines = line_rules_by engine.Neo options words;
       broken = if width.breaks_words then Some cluster_lines else None;

@@ -10,10 +10,11 @@ ghost use Rattle.segment_output.specs.declared.marks.Mark.{Mark};
 ghost use Rattle.segment_output.specs.declared.output.Style.TheVariants.{Json};
 
 use crate::marks::Mark;
-use crate::object_pieces::{Copied, copied_from};
-use crate::output::{Part, Segment, later, one_more, push_line};
+use crate::output::{Part, Segment, push_line};
 use crate::page::Page;
 use segment_text::bare::{BareStretch, bare_stretch_after};
+use segment_text::copied::{Copied, copied_from};
+use segment_text::size::{later, one_more};
 use std::alloc::Global;
 use std::io;
 use std::io::Write;

@@ -9,10 +9,10 @@ ghost use Rattle.segment_output.specs.Output.{file_tokens, mark_tokens, object_o
 ghost use Rattle.segment_output.specs.declared.marks.Mark.TheVariants.{Word};
 
 use crate::marks::Mark;
-use crate::output::push_digits;
 use icu_segmenter::options::WordType;
 use json::Writer;
 use segment_text::bare::is_bare_text;
+use segment_text::numbers::push_digits;
 use std::alloc::{AllocError, Global};
 use std::{mem, str};
 

@@ -1,5 +1,5 @@
 //! How segments are written.
-ghost use Rattle.std.specs.Prelude.{◌≡◌, ◌≢◌, ◌+◌, ◌++◌, ◌∷◌, [], ℕ, false, List, None, length, decimal, option_map, IfOk, IsTrue, OnOk};
+ghost use Rattle.std.specs.Prelude.{◌≡◌, ◌≢◌, ◌++◌, ◌∷◌, [], ℕ, false, List, None, length, option_map, IfOk, IsTrue, OnOk};
 ghost use Rattle.std.specs.Io.KnownBytes.{Appends};
 ghost use Rattle.std.specs.Iterator.{IsFinite, YieldsThen};
 ghost use Rattle.std.specs.List.{slice_range};
@@ -14,7 +14,8 @@ use crate::object_lines::print_objects;
 use crate::objects::{Said, push_object};
 use crate::stretch::{Stretch, push_short, stretch_after};
 use segment_text::escapes::push_escaped;
-use segment_text::size::Tally;
+use segment_text::numbers::{push_digits, push_number};
+use segment_text::size::{Tally, later, one_more};
 use std::alloc::{AllocError, Global};
 use std::io;
 use std::io::Write;
@@ -69,9 +70,6 @@ pub struct Numbers {
     /// How many bytes there are.
     pub bytes: bool,
 }
-
-// The longest number has 20 digits, and one byte stands after them.
-const NUMBER_LEN: usize = 21;
 
 /// Lines are gathered until they have so many bytes, and then written, so that few writes reach the system.
 pub const LINES_LEN: usize = 65536;
@@ -141,14 +139,6 @@ fn print_lines<N: Iterator<Item = (usize, Mark)>, O: Write>(
     out.write_all(lines.as_slice())?;
     out.flush()?;
     Ok(count)
-}
-
-/// One segment more. The error is one that no `usize` counts.
-#[inline(always)]
-pub fn one_more(count: usize) -> Result<usize, AllocError>
-    ensures { IfOk result (λ more. more ≡ count + 1) }
-{
-    count.checked_add(1).ok_or(AllocError)
 }
 
 /// A segment of a part.
@@ -261,15 +251,6 @@ fn push_name(name: Option<&str>, line: &mut Vec<u8>) -> Result<(), AllocError>
     line.extend_from_slice(b"\n")
 }
 
-/// Adds a number in decimal.
-pub(crate) fn push_digits(number: usize, line: &mut Vec<u8>) -> Result<(), AllocError>
-    ensures { OnOk result (line.new.items ≡ line.old.items ++ decimal number) }
-{
-    let mut digits = [0; NUMBER_LEN];
-    let start = itoa::write_digits(number as u64, &mut digits, NUMBER_LEN);
-    line.extend_from_slice(&digits[start..])
-}
-
 /// Writes the lines that were gathered, and empties their vector. The errors are the writer's.
 // Apart, since an `io::Result` is wide.
 #[cold]
@@ -323,14 +304,6 @@ pub fn push_line(part: Part<'_>, segment: Segment, lines: &mut Vec<u8>) -> Resul
     }
 }
 
-/// A place so many bytes later. The error is one that no `usize` counts.
-#[inline(always)]
-pub fn later(before: usize, place: usize) -> Result<usize, AllocError>
-    ensures { IfOk result (λ later. later ≡ before + place) }
-{
-    before.checked_add(place).ok_or(AllocError)
-}
-
 // What stands between two places.
 #[inline(always)]
 fn segment_of(text: &[u8], start: usize, end: usize) -> &[u8]
@@ -338,13 +311,4 @@ fn segment_of(text: &[u8], start: usize, end: usize) -> &[u8]
 {
     let rest = text.get(start..).unwrap_or(&[]);
     rest.get(..end.saturating_sub(start)).unwrap_or(rest)
-}
-
-// Adds a number in decimal, and a byte after it.
-fn push_number(number: usize, after: u8, lines: &mut Vec<u8>) -> Result<(), AllocError>
-    ensures { OnOk result (lines.new.items ≡ lines.old.items ++ decimal number ++ after ∷ []) }
-{
-    let mut digits = [after; NUMBER_LEN];
-    let start = itoa::write_digits(number as u64, &mut digits, NUMBER_LEN - 1);
-    lines.extend_from_slice(&digits[start..])
 }

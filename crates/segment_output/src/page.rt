@@ -5,8 +5,9 @@ ghost use Rattle.json.specs.Print.{print};
 ghost use Rattle.segment_text.specs.Bare.{AreBare};
 ghost use Rattle.segment_output.specs.Output.{object_of};
 
-use crate::object_pieces::{Copied, OBJECT_LEN, put_pieces};
+use crate::object_pieces::{OBJECT_LEN, put_pieces};
 use crate::output::Segment;
+use segment_text::copied::Copied;
 use segment_text::digits::Digits;
 use std::alloc::{AllocError, Global};
 use std::io;

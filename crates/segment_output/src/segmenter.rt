@@ -271,6 +271,7 @@ pub fn segmenter_of(
     let Vocabulary {
         dictionaries,
         abbreviations,
+        patterns: _,
     } = words;
     match kind {
         Kind::Clusters => Ok(Segmenter::Clusters(cluster_segmenter(alloc, engine)?)),

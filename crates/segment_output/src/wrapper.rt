@@ -15,10 +15,12 @@ ghost use Rattle.icu_segmenter.specs.Wrapping.{TextLine};
 ghost use Rattle.segment_output.specs.Wrapped.{EndsLines, cluster_lines, indent_in, printed_lines, shown_line, shown_lines, wrapped_output};
 ghost use Rattle.segment_output.specs.Wrapper.{wrapping_of, IsAskedWrapper};
 
-mod balanced;
+pub mod limited;
+mod paragraphs;
 
 use crate::machine_lines::MachineLines;
 use crate::output::{LINES_CAPACITY, LINES_LEN, write_lines};
+use icu_segmenter::hyphens::HyphenationPatterns;
 use icu_segmenter::options::{LineBreakOptions, LineBreakStrictness};
 use icu_segmenter::provider::{DataError, Dictionaries};
 use icu_segmenter::wrap::{Room, WrapUtf8Iterator};
@@ -51,7 +53,9 @@ pub struct Wrapper {
     first_indent: Vec<u8>,
     /// What stands before the other lines.
     indent: Vec<u8>,
-    /// The columns that lines have at most behind these.
+    /// The columns that a line has at most.
+    columns: usize,
+    /// Those that it has behind its indent.
     room: Room,
     /// The clusters by which they are counted; by character where there are none.
     counted: Option<GraphemeClusterSegmenter>,
@@ -59,6 +63,8 @@ pub struct Wrapper {
     lines: MachineLines,
     /// What finds it in a line that is wider, where such lines are broken: at each cluster.
     clusters: Option<MachineLines>,
+    /// By which patterns words are hyphenated, if they are.
+    patterns: Option<HyphenationPatterns>,
 }
 
 impl Wrapper {
@@ -176,14 +182,17 @@ impl Wrapper {
     }
 }
 
-/// A wrapper to a width, with these options of lines and these dictionaries. Fails only when out of memory.
+/// A wrapper to a width, with these options of lines, these dictionaries, and patterns of hyphenation, if some are given. Fails only when out of
+/// memory.
 pub fn wrapper_of(
     alloc: Global,
     width: Width<'_>,
     options: LineBreakOptions<'_>,
     dictionaries: Dictionaries,
+    patterns: Option<HyphenationPatterns>,
 ) -> Result<Wrapper, DataError>
-    ensures { IfOk result (λ wrapper. IsAskedWrapper width.entry options.entry (script_words dictionaries) wrapper) }
+    ensures asked { IfOk result (λ wrapper. IsAskedWrapper width.entry options.entry (script_words dictionaries) wrapper) }
+    ensures patterns { IfOk result (λ wrapper. wrapper.patterns ≡ patterns) }
 {
     let counted = if width.by_cluster {
         Some(grapheme_segmenter(alloc)?)
@@ -198,10 +207,12 @@ pub fn wrapper_of(
     Ok(Wrapper {
         first_indent: width.first_indent.as_bytes().to_vec(alloc)?,
         indent: width.indent.as_bytes().to_vec(alloc)?,
+        columns: width.columns,
         room: Room::beside(width.columns, width.first_indent, width.indent),
         counted,
         lines: MachineLines::try_new(alloc, options, dictionaries)?,
         clusters,
+        patterns,
     })
 }
 

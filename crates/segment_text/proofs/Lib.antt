@@ -2,6 +2,7 @@ pub mod BareStretches
 pub mod Escaping
 pub mod Fields
 pub mod KeptDigits
+pub mod LineByLine
 pub mod LineFeeds
 pub mod PutPieces
 pub mod WholeLines

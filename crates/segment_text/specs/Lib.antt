@@ -3,6 +3,8 @@ pub mod Blocks
 pub mod Escapes
 pub mod Fault
 pub mod Joined
+pub mod Limit
+pub mod Lines
 pub mod Preparation
 pub mod Size
 pub mod Tabs

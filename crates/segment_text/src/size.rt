@@ -1,8 +1,9 @@
 //! How large a text is.
-ghost use Rattle.std.specs.Prelude.{◌≡◌, ◌≤◌, IfSome, length};
+ghost use Rattle.std.specs.Prelude.{◌≡◌, ◌+◌, ◌≤◌, IfOk, IfSome, length};
 ghost use Rattle.segment_text.specs.Size.{both_sizes, line_feeds, size_of};
 
 use memchr::memchr_iter;
+use std::alloc::AllocError;
 
 /// How large a text is.
 #[derive(Clone, Copy, PartialEq, Eq)]
@@ -50,4 +51,20 @@ pub fn line_feeds(text: &[u8]) -> usize
 {
     // Line feeds are few, so each is searched for: `Memchr::count` would look at every byte.
     Iterator::count(memchr_iter(b'\n', text))
+}
+
+/// One segment more. The error is one that no `usize` counts.
+#[inline(always)]
+pub fn one_more(count: usize) -> Result<usize, AllocError>
+    ensures { IfOk result (λ more. more ≡ count + 1) }
+{
+    count.checked_add(1).ok_or(AllocError)
+}
+
+/// A place so many bytes later. The error is one that no `usize` counts.
+#[inline(always)]
+pub fn later(before: usize, place: usize) -> Result<usize, AllocError>
+    ensures { IfOk result (λ later. later ≡ before + place) }
+{
+    before.checked_add(place).ok_or(AllocError)
 }

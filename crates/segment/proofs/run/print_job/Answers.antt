@@ -1,7 +1,7 @@
 -- A text that has parts is written part by part, and any other is read first.
 use Rattle.std.proofs.Common.{refl, option_map}
 use Rattle.segment.specs.Job.{IsPrintingOf}
-use Rattle.segment.proofs.Counted.{all-balanced, all-split, begun-split, begun-whole}
+use Rattle.segment.proofs.Counted.{all-paragraphs, all-split, begun-split, begun-whole}
 use Rattle.segment.proofs.run.print_job.Goals.{in-Cut, in-Wrap}
 use Rattle.segment.proofs.run.print_job.Goals as goal
 
@@ -35,10 +35,10 @@ returns-clause-written g c =
 pub returns-clause-begun : goal.returns-clause-begun
 returns-clause-begun g c = begun-whole _ _ c.print_whole.result c.print_whole.ensures.unwritten
 
-pub returns-in-Balance-clause-written : goal.returns-in-Balance-clause-written
-returns-in-Balance-clause-written g c =
-    all-balanced (option_map (λ name. name.now) c.args.file) c.args.job.now _ (g.I.Read.remaining c.args.input.now) _ _ c.print_balanced.result c.in-Balance.is
-    c.print_balanced.ensures.written
+pub returns-in-Paragraphs-clause-written : goal.returns-in-Paragraphs-clause-written
+returns-in-Paragraphs-clause-written g c =
+    all-paragraphs (option_map (λ name. name.now) c.args.file) c.args.job.now _ (g.I.Read.remaining c.args.input.now) _ _ c.print_paragraphs.result c.in-Paragraphs.is
+    c.print_paragraphs.ensures.written
 
-pub returns-in-Balance-clause-begun : goal.returns-in-Balance-clause-begun
-returns-in-Balance-clause-begun g c = begun-whole _ _ c.print_balanced.result c.print_balanced.ensures.unwritten
+pub returns-in-Paragraphs-clause-begun : goal.returns-in-Paragraphs-clause-begun
+returns-in-Paragraphs-clause-begun g c = begun-whole _ _ c.print_paragraphs.result c.print_paragraphs.ensures.unwritten

@@ -1,6 +1,6 @@
 -- After what is printed comes how many segments there are.
 use Rattle.std.proofs.Common.{◌≡◌, ◌⊎◌, ℕ, List, Option, IfSome, option_map, subst, sym}
-use Rattle.segment_output.specs.Balanced.{AppendsSome}
+use Rattle.segment_output.specs.Paragraphs.{AppendsSome}
 use Rattle.segment.specs.Job.{IsBegunBy, IsPrintedBy, IsTally}
 use Rattle.segment.proofs.Counted.{counted-of, uncounted-of}
 use Rattle.segment.proofs.run.run.Goals as goal

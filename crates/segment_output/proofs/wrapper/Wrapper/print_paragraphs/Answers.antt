@@ -1,45 +1,10 @@
--- One paragraph more is given.
-use Rattle.std.proofs.Common.{◌≡◌, ℕ, List, true, false, rules, subst, sym}
-use Rattle.std.specs.Io.KnownBytes.{Appends}
-use Rattle.segment_output.specs.Balanced.{AppendsSome, IsWrittenFrom}
-use Rattle.segment_output.specs.Wrapper.{wrapping_of}
-use Rattle.segment_output.proofs.BalancedLines.{IsProgress, progress-all, progress-end, progress-fewer, progress-next, progress-none, progress-written}
+-- The paragraphs are those of the text.
+use Rattle.std.proofs.Common.{subst, sym}
+use Rattle.seg_wrap.proofs.Texts.{utf8-text}
+use Rattle.segment_output.specs.Paragraphs.{IsTextWithin}
 use Rattle.segment_output.proofs.wrapper.Wrapper.print_paragraphs.Goals as goal
 
-pub paragraphs-init : goal.paragraphs-init
-paragraphs-init g c =
-    let wrapping = wrapping_of c.args.self.now in
-    let out = g.O.Write.contents c.args.out.now in
-    subst (λ (lines : List ℕ). IsProgress wrapping c.args.text.now c.args.paragraphs.now c.args.paragraphs.now lines out out) (sym c.in_ok-gathered.ensures.items)
-    (progress-none wrapping c.args.text.now c.args.paragraphs.now out c.requires)
-
-pub paragraphs-smaller-in_ok-write_lines : goal.paragraphs-smaller-in_ok-write_lines
-paragraphs-smaller-in_ok-write_lines g c =
-    let some : c.in_ok-push_paragraph.field-0 ≡ true = search rules in
-    progress-fewer (wrapping_of c.args.self.now) c.args.text.now c.args.paragraphs.now _ _ _ _ _ c.in_ok-push_paragraph.ensures some
-
-pub paragraphs-preserved-in_ok-write_lines : goal.paragraphs-preserved-in_ok-write_lines
-paragraphs-preserved-in_ok-write_lines g c =
-    let wrapping = wrapping_of c.args.self.now in
-    progress-written wrapping c.args.text.now c.args.paragraphs.now _ _ _ _ _ _
-    (progress-next wrapping c.args.text.now c.args.paragraphs.now _ _ _ _ _ c.in_ok-push_paragraph.ensures _ _ c.paragraphs.invariant) c.in_ok-write_lines.ensures
-
-pub paragraphs-smaller : goal.paragraphs-smaller
-paragraphs-smaller g c =
-    let some : c.in_ok-push_paragraph.field-0 ≡ true = search rules in
-    progress-fewer (wrapping_of c.args.self.now) c.args.text.now c.args.paragraphs.now _ _ _ _ _ c.in_ok-push_paragraph.ensures some
-
-pub paragraphs-preserved : goal.paragraphs-preserved
-paragraphs-preserved g c =
-    progress-next (wrapping_of c.args.self.now) c.args.text.now c.args.paragraphs.now _ _ _ _ _ c.in_ok-push_paragraph.ensures _ _ c.paragraphs.invariant
-
-pub returns : goal.returns
-returns g c =
-    let wrapping = wrapping_of c.args.self.now in
-    let none : c.in_ok-push_paragraph.field-0 ≡ false = search rules in
-    let slice : Appends (g.O.Write.contents c.paragraphs.out) (g.O.Write.contents c.write_all.new.self) c.push_paragraph.new.gathered.items = search rules in
-    let shown : AppendsSome (g.O.Write.contents c.args.out.now) (g.O.Write.contents c.write_all.new.self) (IsWrittenFrom wrapping c.args.text.now c.args.paragraphs.now) =
-    progress-all wrapping c.args.text.now c.args.paragraphs.now _ _ _ _ _
-    (progress-next wrapping c.args.text.now c.args.paragraphs.now _ _ _ _ _ c.in_ok-push_paragraph.ensures _ _ c.paragraphs.invariant)
-    (progress-end wrapping c.args.text.now c.args.paragraphs.now _ _ _ _ _ c.in_ok-push_paragraph.ensures none) slice in
-    search rules
+pub write_paragraphs-requires : goal.write_paragraphs-requires
+write_paragraphs-requires g c =
+    let is = utf8-text c.args.text.now in
+    subst (IsTextWithin c.args.text.now) (sym (c.paragraphs_utf8-paragraphs.ensures.text)) (is.rises, is.end)

@@ -1,6 +1,6 @@
 -- What was there, and then the lines so far.
 use Rattle.std.proofs.Common.{◌≡◌, ◌++◌, take}
-use Rattle.segment_output.specs.Balanced.{shown_spans}
+use Rattle.segment_output.specs.Paragraphs.{shown_spans}
 use Rattle.segment_output.specs.Wrapper.{wrapping_of}
 use Rattle.segment_output.proofs.wrapper.Wrapper.push_spans.Given as goal
 

@@ -1,5 +1,5 @@
 use Rattle.segment_text.proofs.PutPieces.{put-piece}
-use Rattle.segment_output.proofs.object_pieces.put_text.Goals as goal
+use Rattle.segment_text.proofs.copied.put_text.Goals as goal
 
 pub returns-else-text-eq-SHORT_LEN-clause-pieces : goal.returns-else-text-eq-SHORT_LEN-clause-pieces
 returns-else-text-eq-SHORT_LEN-clause-pieces c =

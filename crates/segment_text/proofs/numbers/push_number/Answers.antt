@@ -1,6 +1,6 @@
 use Rattle.std.proofs.Common.{rules}
 use Rattle.std.proofs.lemmas.Fmt.{length-decimal-le}
-use Rattle.segment_output.proofs.output.push_number.Goals as goal
+use Rattle.segment_text.proofs.numbers.push_number.Goals as goal
 
 pub write_digits-start-requires : goal.write_digits-start-requires
 write_digits-start-requires c = search (rules, length-decimal-le 20)
