@@ -1,6 +1,6 @@
 //! A caller that changes a rule of Unicode's words.
 ghost use Rattle.std.specs.Prelude.{◌≡◌, Some, IfOk};
-ghost use Rattle.callers.specs.Changed.{low_line_alone};
+ghost use Rattle.callers.specs.Changed.{low_line_alone, low_line_of};
 ghost use Rattle.icu_segmenter.specs.ScriptWords.{no_words};
 ghost use Rattle.icu_segmenter.specs.WordRules.{table_words};
 ghost use Rattle.icu_segmenter.specs.Words.{owned_word_rules};
@@ -20,9 +20,16 @@ pub fn words_split_at_low_lines(alloc: Global) -> Result<WordSegmenter, Failure>
 {
     let table = word_table(alloc)?;
     let class = table.property_table().get32(u32::from('!'));
-    let classes = ClassTable::try_from_ranges(Vec::from_slice(alloc, &[(0x5F, 0x5F, class)])?, 0)?;
-    let overriding = RuleBreakDataOverride::try_from_parts(classes)?;
+    let overriding = low_line_of(alloc, class)?;
     let clusters = cluster_table(alloc)?;
     let options = WordBreakOptions::default();
     Ok(WordSegmenter::try_new_for_non_complex_scripts(table, Some(overriding), clusters, options)?)
+}
+
+// The override by which a low line has this class.
+fn low_line_of(alloc: Global, class: u8) -> Result<RuleBreakDataOverride, Failure>
+    ensures { IfOk result (λ overriding. overriding ≡ low_line_of class) }
+{
+    let classes = ClassTable::try_from_ranges(Vec::from_slice(alloc, &[(0x5F, 0x5F, class)])?, 0)?;
+    Ok(RuleBreakDataOverride::try_from_parts(classes)?)
 }

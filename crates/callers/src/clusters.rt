@@ -3,13 +3,13 @@ ghost use Rattle.std.specs.Prelude.{◌≡◌, IfOk, slice_get};
 ghost use Rattle.callers.specs.Fields.{before_segment};
 ghost use Rattle.icu_segmenter.specs.Boundaries.{offsets};
 ghost use Rattle.icu_segmenter.specs.Clusters.{cluster_rules};
-ghost use Rattle.icu_segmenter.specs.NearBoundaries.{IsNearestAbove, IsNearestBelow, boundary_places};
-ghost use Rattle.icu_segmenter.specs.Rules.{boundaries_by, boundaries_of};
+ghost use Rattle.icu_segmenter.specs.NearBoundaries.{IsNearestAbove, IsNearestBelow, places_of_units};
+ghost use Rattle.icu_segmenter.specs.Rules.{boundaries_of};
 ghost use Rattle.icu_segmenter.specs.TextSegments.{indices_of, nothing, segments_of};
 ghost use Rattle.icu_segmenter.specs.Decoding.{utf8};
 
 use icu_segmenter::GraphemeClusterSegmenterBorrowed;
-use icu_segmenter::cursor::BoundaryCursor;
+use icu_segmenter::cursor::{BoundaryCursor, CursorText, SegmenterOf};
 use icu_segmenter::segments::BreakIterator;
 use std::alloc::{AllocError, Global};
 
@@ -38,15 +38,16 @@ pub fn first_clusters<'s>(
     }
 }
 
-/// Where the caret of an editor moves to, one cluster to the left and one to the right, in bytes. None where the text ends there.
-pub fn caret_moves(
-    segmenter: GraphemeClusterSegmenterBorrowed<'_>,
-    text: &str,
+/// Where the caret of an editor moves to, one segment to the left and one to the right, in units of the text: by clusters, or by any other
+/// kind. None where the text ends there.
+pub fn caret_moves<T: CursorText, S: SegmenterOf<T::Source>>(
+    segmenter: S,
+    text: T,
     caret: usize,
 ) -> (Option<usize>, Option<usize>)
-    ensures left { IsNearestBelow (boundary_places (boundaries_by (cluster_rules segmenter.entry)) text.now) caret result.0 }
-    ensures right { IsNearestAbove (boundary_places (boundaries_by (cluster_rules segmenter.entry)) text.now) caret result.1 }
+    ensures left { IsNearestBelow (places_of_units T.Source.decode (S.find segmenter) (T.units text)) caret result.0 }
+    ensures right { IsNearestAbove (places_of_units T.Source.decode (S.find segmenter) (T.units text)) caret result.1 }
 {
-    let cursor = BoundaryCursor::new(segmenter, text);
+    let cursor = BoundaryCursor::over(segmenter, text);
     (cursor.previous_boundary(caret), cursor.next_boundary(caret))
 }

@@ -38,6 +38,7 @@ use icu_segmenter::{
     WordSegmenterBorrowed,
 };
 use seg_memo::configuration::Cell;
+use std::alloc::AllocError;
 use std::mem::size_of;
 
 fn main(rt: HostRuntime) -> Result<()> {
@@ -56,8 +57,9 @@ fn find_all(rt: &HostRuntime) -> Result<()> {
 }
 
 // Prints places that are found.
-fn print(rt: &HostRuntime, subject: &str, places: &[usize]) -> Result<()> {
-    println!(rt; "{subject}: {places:?}")?;
+fn print(rt: &HostRuntime, subject: &str, places: Result<Vec<usize>, AllocError>) -> Result<()> {
+    let places = places?;
+    println!(rt; "{subject}: {:?}", places.as_slice())?;
     Ok(())
 }
 
@@ -74,19 +76,19 @@ fn find_clusters(rt: &HostRuntime) -> Result<()> {
 
 fn print_clusters(rt: &HostRuntime, clusters: GraphemeClusterSegmenterBorrowed<'_>) -> Result<()> {
     let alloc = rt.alloc();
-    let places = cluster_places(alloc, clusters, "e\u{301}a")?;
-    print(rt, "clusters of e, an accent and a", places.as_slice())?;
-    let units: Vec<usize> = clusters.segment_utf16(&[0x65, 0x301, 0x61]).collect(alloc)?;
-    print(rt, "the same in UTF-16", units.as_slice())?;
-    let first = first_clusters(clusters, "ae\u{301}bc", 2);
-    println!(rt; "the first two clusters of a, e, an accent and bc: {first:?}")?;
+    let places = cluster_places(alloc, clusters, "e\u{301}a");
+    print(rt, "clusters of e, an accent and a", places)?;
+    let places = clusters.segment_utf16(&[0x65, 0x301, 0x61]).collect(alloc);
+    print(rt, "the same in UTF-16", places)?;
     print_moves(rt, clusters)?;
     let look_ups = cluster_look_ups(alloc, clusters, "ab")?;
     print_count(rt, "look-ups in ab", look_ups as u64)
 }
 
 fn print_moves(rt: &HostRuntime, clusters: GraphemeClusterSegmenterBorrowed<'_>) -> Result<()> {
-    let (left, right) = caret_moves(clusters, "ab\ne\u{301}a", 6);
+    let first = first_clusters(clusters, "ae\u{301}bc", 2);
+    println!(rt; "the first two clusters of a, e, an accent and bc: {first:?}")?;
+    let (left, right) = caret_moves(clusters, "ab\ne\u{301}a".as_bytes(), 6);
     println!(rt; "a caret before the last a of two lines moves to {left:?} and {right:?}")?;
     Ok(())
 }
@@ -101,10 +103,14 @@ fn find_sentences(rt: &HostRuntime) -> Result<()> {
 }
 
 fn print_sentences(rt: &HostRuntime, sentences: SentenceSegmenterBorrowed<'_>) -> Result<()> {
-    let places: Vec<usize> = sentences.segment_str("Hi. Bye.").collect(rt.alloc())?;
-    print(rt, "sentences of Hi. Bye.", places.as_slice())?;
+    let places = sentences.segment_str("Hi. Bye.").collect(rt.alloc());
+    print(rt, "sentences of Hi. Bye.", places)?;
     let texts = sentence_texts(rt.alloc(), sentences, "Hi. Bye.")?;
     println!(rt; "as text: {:?}", texts.as_slice())?;
+    print_counts(rt, sentences)
+}
+
+fn print_counts(rt: &HostRuntime, sentences: SentenceSegmenterBorrowed<'_>) -> Result<()> {
     let last = last_sentence(sentences, "Hi. Bye.");
     println!(rt; "the last of them: {last:?}")?;
     let count = sentence_count(sentences, b"Hi. Bye.");
@@ -129,12 +135,12 @@ fn find_lines(rt: &HostRuntime) -> Result<()> {
 
 fn print_lines(rt: &HostRuntime, lines: LineSegmenterBorrowed<'_>) -> Result<()> {
     let alloc = rt.alloc();
-    let places: Vec<usize> = lines.segment_str("a b\nc").collect(alloc)?;
-    print(rt, "lines of a b, a line feed and c", places.as_slice())?;
-    let mandatory = mandatory_breaks(alloc, lines, "a b\nc")?;
-    print(rt, "where they must be broken", mandatory.as_slice())?;
-    let ends = filled_lines(alloc, lines, "one two three\nfour abcdefgh", 8)?;
-    print(rt, "lines of a width of 8", ends.as_slice())?;
+    let places = lines.segment_str("a b\nc").collect(alloc);
+    print(rt, "lines of a b, a line feed and c", places)?;
+    let places = mandatory_breaks(alloc, lines, "a b\nc");
+    print(rt, "where they must be broken", places)?;
+    let ends = filled_lines(alloc, lines, "one two three\nfour abcdefgh", 8);
+    print(rt, "lines of a width of 8", ends)?;
     print_height(rt, LineWrapper::new(lines)?)
 }
 
@@ -154,8 +160,8 @@ fn find_lines_beside_letters(rt: &HostRuntime) -> Result<()> {
 }
 
 fn print_lines_beside_letters(rt: &HostRuntime, lines: LineSegmenterBorrowed<'_>) -> Result<()> {
-    let places: Vec<usize> = lines.segment_str("ab c").collect(rt.alloc())?;
-    print(rt, "lines of ab c beside each letter", places.as_slice())
+    let places = lines.segment_str("ab c").collect(rt.alloc());
+    print(rt, "lines of ab c beside each letter", places)
 }
 
 fn find_runs(rt: &HostRuntime) -> Result<()> {
@@ -172,26 +178,29 @@ fn print_runs(
     subject: &str,
     runs: GraphemeClusterSegmenterBorrowed<'_>,
 ) -> Result<()> {
-    let places = cluster_places(rt.alloc(), runs, "two  words")?;
-    print(rt, subject, places.as_slice())
+    print(rt, subject, cluster_places(rt.alloc(), runs, "two  words"))
 }
 
 fn find_by_traits(rt: &HostRuntime) -> Result<()> {
-    let alloc = rt.alloc();
-    let boundaries = boundaries_by_fewer(alloc, b"aaac")?;
+    let boundaries = boundaries_by_fewer(rt.alloc(), b"aaac")?;
     println!(rt;
         "boundaries of aaac by fewer transitions: {:?}",
         boundaries.as_slice()
     )?;
     print_count(rt, "bytes of a memo's cell", size_of::<Cell>() as u64)?;
-    let machine = cluster_machine(alloc)?;
+    find_cuts(rt)
+}
+
+fn find_cuts(rt: &HostRuntime) -> Result<()> {
+    let machine = cluster_machine(rt.alloc())?;
     let clusters = GraphemeClusterSegmenterBorrowed::new_neo(&machine)?;
-    let cuts = cuts_by_word(alloc, clusters, &[0xE01, 0xE01], "\u{E01}\u{E01}\u{E34}")?;
-    print(
-        rt,
-        "cuts by a word that would end within a cluster",
-        cuts.as_slice(),
-    )
+    let cuts = cuts_by_word(
+        rt.alloc(),
+        clusters,
+        &[0xE01, 0xE01],
+        "\u{E01}\u{E01}\u{E34}",
+    );
+    print(rt, "cuts by a word that would end within a cluster", cuts)
 }
 
 fn find_words(rt: &HostRuntime) -> Result<()> {

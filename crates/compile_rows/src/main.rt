@@ -16,11 +16,8 @@ use icu_segmenter_uax29::{cluster_machine, sentence_machine, word_machine};
 use refusals::print_refusals;
 use seg_compile::compile::{CompileError, Witness};
 use seg_machine::provider::SegmenterStateMachine;
-use seg_machine::tailored_machine::TailoredMachineBorrowed;
 use seg_notation::TextRules;
-use seg_rows::rule_segmenter_v2::RuleBreakIterator;
-use seg_text::indices::StrCharIndices;
-use texts::{have_same, keeps_symbols, text_of};
+use texts::{Boundaries, boundaries, have_same, keeps_symbols, text_of};
 
 fn main(rt: HostRuntime) -> Result<()> {
     print_places(&rt, good::NAMES, &good::NAME_TEXTS)?;
@@ -59,18 +56,20 @@ fn print_tailored(rt: &HostRuntime) -> Result<()> {
 fn print_places(rt: &HostRuntime, rules: &str, texts: &[&str]) -> Result<()> {
     let rules = TextRules::try_from_text(rt.alloc(), rules)?;
     let machine = rules.compile(rt.alloc())?;
+    print_texts(rt, &machine, texts)
+}
+
+fn print_texts(rt: &HostRuntime, machine: &SegmenterStateMachine, texts: &[&str]) -> Result<()> {
     for text in texts {
         println!(rt; "{text:?}")?;
-        print_boundaries(rt, &machine, text)?;
+        print_boundaries(rt, &mut boundaries(machine, text))?;
     }
     Ok(())
 }
 
 // Prints the boundaries of a text, those of status 1 with an exclamation mark.
-fn print_boundaries(rt: &HostRuntime, machine: &SegmenterStateMachine, text: &str) -> Result<()> {
-    let machine = TailoredMachineBorrowed::without_tailoring(machine);
-    let mut places = RuleBreakIterator::new(machine, StrCharIndices::new(text));
-    for _ in 0..=text.len() {
+fn print_boundaries(rt: &HostRuntime, places: &mut Boundaries<'_, '_>) -> Result<()> {
+    for _ in 0..u64::MAX {
         let Some(place) = places.next() else {
             break;
         };
@@ -90,13 +89,21 @@ fn print_same(
 ) -> Result<()> {
     let rules = TextRules::try_from_text(rt.alloc(), rules)?;
     let compiled = rules.compile(rt.alloc())?;
-    let text = text_of(rt.alloc(), machine)?;
-    let is_same = keeps_symbols(machine, &compiled) && have_same(&compiled, machine, text.as_str());
+    let is_same = are_same(rt, &compiled, machine)?;
     let found = if is_same { "the same" } else { "other" };
     let symbols = rules.symbols();
     let states = compiled.states().len();
     println!(rt; "{name}: {symbols} symbols, {states} states, {found} boundaries")?;
     Ok(())
+}
+
+fn are_same(
+    rt: &HostRuntime,
+    compiled: &SegmenterStateMachine,
+    machine: &SegmenterStateMachine,
+) -> Result<bool> {
+    let text = text_of(rt.alloc(), machine)?;
+    Ok(keeps_symbols(machine, compiled) && have_same(compiled, machine, text.as_str()))
 }
 
 // Prints why rules have no machine, by their line and the names of symbols.

@@ -6,7 +6,8 @@ use seg_rows::rule_segmenter_v2::RuleBreakIterator;
 use seg_text::indices::StrCharIndices;
 use std::alloc::{AllocError, Global};
 
-const MAX_CODE_POINT: u32 = 0x10_FFFF;
+// How many code points there are.
+const CODE_POINTS: u32 = 0x11_0000;
 
 /// A text that has each three of the symbols that characters have in a machine, one after another.
 pub(crate) fn text_of(
@@ -66,7 +67,7 @@ pub(crate) fn keeps_symbols(one: &SegmenterStateMachine, other: &SegmenterStateM
     let one = TailoredMachineBorrowed::without_tailoring(one);
     let other = TailoredMachineBorrowed::without_tailoring(other);
     let mut found: [Option<Symbol>; 256] = [None; 256];
-    for code_point in 0..=MAX_CODE_POINT {
+    for code_point in 0..CODE_POINTS {
         let symbol = other.symbol(code_point);
         match found.get_mut(usize::from(one.symbol(code_point))) {
             Some(Some(known)) if *known != symbol => return false,
@@ -83,9 +84,11 @@ pub(crate) fn have_same(
     other: &SegmenterStateMachine,
     text: &str,
 ) -> bool {
-    let mut ones = boundaries(one, text);
-    let mut others = boundaries(other, text);
-    for _ in 0..=text.len() {
+    are_same(&mut boundaries(one, text), &mut boundaries(other, text))
+}
+
+fn are_same(ones: &mut Boundaries<'_, '_>, others: &mut Boundaries<'_, '_>) -> bool {
+    for _ in 0..u64::MAX {
         let place = ones.next();
         if others.next() != place || others.status() != ones.status() {
             return false;
@@ -97,10 +100,14 @@ pub(crate) fn have_same(
     true
 }
 
-fn boundaries<'data, 's>(
+/// The boundaries of a text by a machine.
+pub(crate) type Boundaries<'data, 's> = RuleBreakIterator<'data, StrCharIndices<'s>>;
+
+/// The boundaries of a text by a machine.
+pub(crate) fn boundaries<'data, 's>(
     machine: &'data SegmenterStateMachine,
     text: &'s str,
-) -> RuleBreakIterator<'data, StrCharIndices<'s>> {
+) -> Boundaries<'data, 's> {
     let machine = TailoredMachineBorrowed::without_tailoring(machine);
     RuleBreakIterator::new(machine, StrCharIndices::new(text))
 }

@@ -3,12 +3,11 @@
 use crate::dice::Dice;
 use crate::failure::{Failure, both, check};
 use crate::machines::{dictionaries, dictionary, machine, tailoring, tailorings};
-use crate::samples::{decoded, random_bytes};
+use crate::samples::random_text;
 use crate::tables::{Numbers, cluster_table, overriding};
 use crate::trial::{examine, examine_owned};
 use bench::segmenter::{Segmenter, SegmenterBorrowed};
-use icu_segmenter::complex::ComplexPayloadBorrowed;
-use icu_segmenter::indices::Utf8CharIndices;
+use icu_segmenter::complex::{ComplexIterator, ComplexPayloadBorrowed};
 use icu_segmenter::options::{
     LanguageIdentifier, LineBreakOptions, LineBreakStrictness, LineBreakWordOption,
     SentenceBreakInvariantOptions, SentenceBreakOptions, WordBreakInvariantOptions,
@@ -23,7 +22,8 @@ use icu_segmenter::{
     LineSegmenterBorrowed, SentenceSegmenter, SentenceSegmenterBorrowed, WordSegmenter,
     WordSegmenterBorrowed,
 };
-use std::alloc::Global;
+use seg_text::scaffold::RuleBreakType;
+use std::alloc::{AllocError, Global};
 
 /// What is tried.
 #[derive(Clone, Copy, Debug)]
@@ -461,23 +461,27 @@ fn examine_given_lines(
 // The cuts of a text as one piece are to rise strictly to its end.
 fn pieces(alloc: Global, dice: &mut Dice) -> Result<bool, Failure> {
     let (words, table) = both(dictionary(alloc, dice), cluster_table(alloc, dice))?;
-    let bytes = random_bytes(alloc, dice)?;
-    let text = decoded(alloc, Utf8CharIndices::new(bytes.as_slice()))?;
-    let clusters = GraphemeClusterSegmenterBorrowed::new(&table)?;
-    check_cuts(alloc, clusters, &words, text.as_str())
+    let text = random_text(alloc, dice)?;
+    check_cuts(alloc, &table, &words, text.as_str())
 }
 
 fn check_cuts(
     alloc: Global,
-    clusters: GraphemeClusterSegmenterBorrowed<'_>,
+    table: &RuleBreakData,
     words: &DictionaryBreakData,
     text: &str,
 ) -> Result<bool, Failure> {
-    let cuts: Vec<usize> = ComplexPayloadBorrowed::Dict(words)
-        .segment_str(text, clusters, 0)
-        .collect(alloc)?;
-    check_rising(cuts.as_slice(), text.len())?;
+    let clusters = GraphemeClusterSegmenterBorrowed::new(table)?;
+    let cuts = ComplexPayloadBorrowed::Dict(words).segment_str(text, clusters, 0);
+    check_rising(collected(alloc, cuts)?.as_slice(), text.len())?;
     Ok(false)
+}
+
+fn collected<'s, Y: RuleBreakType<'s>>(
+    alloc: Global,
+    cuts: ComplexIterator<'_, 's, Y>,
+) -> Result<Vec<usize>, AllocError> {
+    cuts.collect(alloc)
 }
 
 fn check_rising(cuts: &[usize], end: usize) -> Result<(), Failure> {

@@ -157,8 +157,10 @@ fn random_text(alloc: Global, dice: &mut Dice) -> Result<Vec<u8>, AllocError> {
 
 // Whether two machines find the same boundaries of a text in Latin-1, with the same statuses.
 fn has_same(one: &SegmenterStateMachine, other: &SegmenterStateMachine, text: &[u8]) -> bool {
-    let mut ones = boundaries(one, text);
-    let mut others = boundaries(other, text);
+    are_same(&mut boundaries(one, text), &mut boundaries(other, text))
+}
+
+fn are_same(ones: &mut Boundaries<'_, '_>, others: &mut Boundaries<'_, '_>) -> bool {
     for _ in 0..u64::MAX {
         let place = ones.next();
         if others.next() != place || others.status() != ones.status() {
@@ -171,10 +173,13 @@ fn has_same(one: &SegmenterStateMachine, other: &SegmenterStateMachine, text: &[
     true
 }
 
+// The boundaries of a text in Latin-1 by a machine.
+type Boundaries<'data, 's> = RuleBreakIterator<'data, Latin1Indices<'s>>;
+
 fn boundaries<'data, 's>(
     machine: &'data SegmenterStateMachine,
     text: &'s [u8],
-) -> RuleBreakIterator<'data, Latin1Indices<'s>> {
+) -> Boundaries<'data, 's> {
     let machine = TailoredMachineBorrowed::without_tailoring(machine);
     RuleBreakIterator::new(machine, Latin1Indices::new(text))
 }

@@ -2,9 +2,8 @@
 
 use crate::dice::Dice;
 use crate::failure::{Failure, both};
-use crate::samples::{decoded, random_bytes};
+use crate::samples::random_text;
 use crate::tables::Classes;
-use icu_segmenter::indices::Utf8CharIndices;
 use icu_segmenter::provider::{
     Acceptance, ComplexScript, Dictionaries, DictionaryBreakData, LineTailorings, Lookahead,
     SegmenterStateMachine, SegmenterStateMachineOverride, State, Symbol,
@@ -162,8 +161,7 @@ pub fn tailorings(alloc: Global, dice: &mut Dice) -> Result<LineTailorings, Fail
 
 /// The dictionary of some words. Fails only when out of memory.
 pub fn dictionary(alloc: Global, dice: &mut Dice) -> Result<DictionaryBreakData, Failure> {
-    let bytes = random_bytes(alloc, dice)?;
-    let text = decoded(alloc, Utf8CharIndices::new(bytes.as_slice()))?;
+    let text = random_text(alloc, dice)?;
     let words: Vec<&str> = text.as_str().split(' ').collect(alloc)?;
     Ok(DictionaryBreakData::try_from_words(alloc, words.as_slice())?)
 }

@@ -6,12 +6,10 @@ ghost use Rattle.seg_text.specs.Boundaries.{boundaries_in, IsCover};
 use crate::failure::{Failure, check};
 use bench::found::Found;
 use bench::segmenter::SegmenterBorrowed;
+use icu_segmenter::WordSegmenterBorrowed;
 use icu_segmenter::cursor::{BoundaryCursor, CursorText, SegmenterOf};
-use icu_segmenter::segments::{BreakIterator, MarkedSegments, WordBreaks, Words};
-use icu_segmenter::{
-    GraphemeClusterSegmenterBorrowed, LineSegmenterBorrowed, SentenceSegmenterBorrowed,
-    WordSegmenterBorrowed,
-};
+use icu_segmenter::indices::StrCharIndices;
+use icu_segmenter::segments::{BreakIterator, MarkedSegments, Source, WordBreaks, Words};
 
 /// A cursor over a text is to find the boundaries next to a place.
 pub fn check_near(
@@ -21,44 +19,28 @@ pub fn check_near(
     found: &Found,
 ) -> Result<(), Failure> {
     let near = neighbours(found.as_slice(), place);
-    let text = text.as_bytes();
-    let agrees = match segmenter {
-        SegmenterBorrowed::Clusters(clusters) => agree_clusters(clusters, text, place, near),
-        SegmenterBorrowed::Sentences(sentences) => agree_sentences(sentences, text, place, near),
-        SegmenterBorrowed::Words(words) => agree_words(words, text, place, near),
-        SegmenterBorrowed::Lines(lines) => agree_lines(lines, text, place, near),
-    };
-    check(agrees, "a cursor that doesn't agree")
+    check(
+        agrees_in(segmenter, text.as_bytes(), place, near),
+        "a cursor that doesn't agree",
+    )
 }
 
-// A function for each kind: one that has all four takes three times as long to prove.
-fn agree_clusters(
-    clusters: GraphemeClusterSegmenterBorrowed<'_>,
-    text: &[u8],
+// Whether a cursor over units finds these boundaries next to a place. The proof is short for all encodings, and long for one.
+fn agrees_in<T: CursorText>(
+    segmenter: SegmenterBorrowed<'_>,
+    text: T,
     place: usize,
     near: Near,
 ) -> bool {
-    agrees(clusters, text, place, near)
+    match segmenter {
+        SegmenterBorrowed::Clusters(clusters) => agrees(clusters, text, place, near),
+        SegmenterBorrowed::Sentences(sentences) => agrees(sentences, text, place, near),
+        SegmenterBorrowed::Words(words) => agrees(words, text, place, near),
+        SegmenterBorrowed::Lines(lines) => agrees(lines, text, place, near),
+    }
 }
 
-fn agree_sentences(
-    sentences: SentenceSegmenterBorrowed<'_>,
-    text: &[u8],
-    place: usize,
-    near: Near,
-) -> bool {
-    agrees(sentences, text, place, near)
-}
-
-fn agree_words(words: WordSegmenterBorrowed<'_>, text: &[u8], place: usize, near: Near) -> bool {
-    agrees(words, text, place, near)
-}
-
-fn agree_lines(lines: LineSegmenterBorrowed<'_>, text: &[u8], place: usize, near: Near) -> bool {
-    agrees(lines, text, place, near)
-}
-
-// Whether a cursor finds these boundaries next to a place.
+// Whether it does by any kind of segmenter.
 fn agrees<T: CursorText, S: SegmenterOf<T::Source>>(
     segmenter: S,
     text: T,
@@ -101,15 +83,21 @@ fn neighbours(found: &[(usize, char)], place: usize) -> Near {
 /// Words are to be those segments that have a type.
 pub fn check_words(segmenter: SegmenterBorrowed<'_>, text: &str) -> Result<(), Failure> {
     match segmenter {
-        SegmenterBorrowed::Words(words) => check_same_words(words, text),
+        SegmenterBorrowed::Words(words) => check_same_words::<StrCharIndices<'_>>(words, text),
         _ => Ok(()),
     }
 }
 
-fn check_same_words(segmenter: WordSegmenterBorrowed<'_>, text: &str) -> Result<(), Failure> {
+fn check_same_words<I: Source>(
+    words: WordSegmenterBorrowed<'_>,
+    text: I::Units,
+) -> Result<(), Failure>
+where
+    I::Units: PartialEq,
+{
     let (agrees, has_ended) = compare_words(
-        segmenter.segment_str(text),
-        segmenter.segment_str(text),
+        SegmenterOf::<I>::breaks(&words, text),
+        SegmenterOf::<I>::breaks(&words, text),
     );
     check(agrees, "segments that are no words")?;
     check(has_ended, "words that are no segments")

@@ -203,18 +203,19 @@ pub fn check_wrapped(
     text: Text<'_>,
     columns: usize,
 ) -> Result<(), Failure> {
-    let SegmenterBorrowed::Lines(lines) = segmenter else {
-        return Ok(());
-    };
-    let Ok(wrapper) = LineWrapper::new(lines) else {
-        return Ok(());
-    };
-    let has_lines = match text {
-        Text::Str(text) => has_wrapped_lines(wrapper, text, columns),
-        Text::Utf8(bytes) => has_wrapped_utf8(wrapper, bytes, columns),
+    let has_lines = match segmenter {
+        SegmenterBorrowed::Lines(lines) => has_wrapped(lines, text, columns),
         _ => true,
     };
     check(has_lines, "wrapped lines that aren't the text")
+}
+
+fn has_wrapped(lines: LineSegmenterBorrowed<'_>, text: Text<'_>, columns: usize) -> bool {
+    match (LineWrapper::new(lines), text) {
+        (Ok(wrapper), Text::Str(text)) => has_wrapped_lines(wrapper, text, columns),
+        (Ok(wrapper), Text::Utf8(bytes)) => has_wrapped_utf8(wrapper, bytes, columns),
+        _ => true,
+    }
 }
 
 fn has_wrapped_lines(wrapper: LineWrapper<'_>, text: &str, columns: usize) -> bool {

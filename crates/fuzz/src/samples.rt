@@ -48,6 +48,12 @@ pub fn decoded<I: Cursor>(alloc: Global, mut text: I) -> Result<String, AllocErr
     Ok(characters)
 }
 
+/// The characters of random bytes. Fails only when out of memory.
+pub fn random_text(alloc: Global, dice: &mut Dice) -> Result<String, AllocError> {
+    let bytes = random_bytes(alloc, dice)?;
+    decoded(alloc, Utf8CharIndices::new(bytes.as_slice()))
+}
+
 /// Bytes of some characters in UTF-8, one in four times with others between them. Fails only when out of memory.
 pub fn random_bytes(alloc: Global, dice: &mut Dice) -> Result<Vec<u8>, AllocError> {
     let mut bytes = Vec::new(alloc);

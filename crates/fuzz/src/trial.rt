@@ -181,8 +181,11 @@ fn counted(
         starts.last() == Some(&size(text)),
         "items that don't end at the end",
     )?;
-    let mut found = segmenter.boundaries(alloc, text)?;
-    count(found.as_mut_slice(), starts.as_slice())?;
+    counts_of(segmenter.boundaries(alloc, text)?, starts.as_slice())
+}
+
+fn counts_of(mut found: Found, starts: &[usize]) -> Result<Found, Failure> {
+    count(found.as_mut_slice(), starts)?;
     Ok(found)
 }
 

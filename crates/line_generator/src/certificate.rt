@@ -1,7 +1,7 @@
 //! The certificate by which the proof checks the machine.
 
 use crate::claims::{CHECK_TESTS, RULE_TESTS, push_claims};
-use crate::page::{Page, push_words};
+use crate::page::{Page, push_name, push_words};
 use crate::plan::{push_plan, push_relation};
 use crate::rows::rules;
 use crate::rules::push_rules;
@@ -91,10 +91,14 @@ fn push_flags(text: &mut String, flags: &mut Vec<u32>) -> Result<(), AllocError>
 }
 
 fn push_list(text: &mut String, flags: u32) -> Result<(), AllocError> {
-    text.push_str("abbrev live_")?;
-    push_words(text, flags, "f", "t")?;
-    text.push_str(" : List Bool\nlive_")?;
-    push_words(text, flags, "f", "t")?;
+    text.push_str("abbrev ")?;
+    push_name(text, flags)?;
+    text.push_str(" : List Bool\n")?;
+    push_name(text, flags)?;
+    push_value(text, flags)
+}
+
+fn push_value(text: &mut String, flags: u32) -> Result<(), AllocError> {
     text.push_str(" = ")?;
     push_words(text, flags, "false ∷ ", "true ∷ ")?;
     text.push_str("[]\n\n")

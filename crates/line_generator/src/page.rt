@@ -43,9 +43,14 @@ impl Page {
         if !self.flags.contains(&flags) {
             self.flags.push(flags)?;
         }
-        self.push("live_")?;
-        push_words(&mut self.text, flags, "f", "t")
+        push_name(&mut self.text, flags)
     }
+}
+
+/// Writes the name of flags.
+pub(crate) fn push_name(text: &mut String, flags: u32) -> Result<(), AllocError> {
+    text.push_str("live_")?;
+    push_words(text, flags, "f", "t")
 }
 
 // How many flags a pattern has.

@@ -2,8 +2,8 @@
 
 use crate::arrays::next;
 use crate::page::Page;
-use crate::rows::SYMBOLS;
-use seg_machine::provider::{Acceptance, SegmenterStateMachine, State};
+use crate::rows::NAMES;
+use seg_machine::provider::{Acceptance, Lookahead, SegmenterStateMachine, State};
 use seg_rules::certificate::Configuration;
 use std::alloc::{AllocError, Global};
 
@@ -14,37 +14,52 @@ pub(crate) fn push_plan(
     machine: &SegmenterStateMachine,
 ) -> Result<(), AllocError> {
     push_accepts(page, machine)?;
-    page.define("nexts", "List (List ℕ)")?;
-    for state in 0..machine.states().len() {
-        push_nexts(page, machine, state)?;
-    }
-    page.push("    []\n\nunfoldable pub plan : Plan\n")?;
-    page.push("plan = record { accepts = accepts; nexts = nexts }\n\n")?;
+    push_nexts(page, machine)?;
+    page.push(PLAN)?;
     let waits = waits(alloc, machine)?;
     push_waits(page, waits.as_slice())
 }
 
+const PLAN: &str = "    []
+
+unfoldable pub plan : Plan
+plan = record { accepts = accepts; nexts = nexts }
+
+";
+
 fn push_accepts(page: &mut Page, machine: &SegmenterStateMachine) -> Result<(), AllocError> {
     page.define("accepts", "List (ℕ × ℕ × Bool)")?;
-    for (acceptance, named) in machine.states() {
-        let (kind, status) = match acceptance {
-            Acceptance::Continue => (0, 0),
-            Acceptance::Accept(status) => (1, *status),
-            Acceptance::Conditional(_, status) => (2, *status),
-        };
-        let names = named.is_some();
-        write!(page.text, "    ({kind}, {status}, {names}) ∷\n")?;
+    for entry in machine.states() {
+        push_accept(page, *entry)?;
     }
     page.push("    []\n\n")
 }
 
-fn push_nexts(
+fn push_accept(page: &mut Page, entry: (Acceptance, Option<Lookahead>)) -> Result<(), AllocError> {
+    let (kind, status) = match entry.0 {
+        Acceptance::Continue => (0, 0),
+        Acceptance::Accept(status) => (1, status),
+        Acceptance::Conditional(_, status) => (2, status),
+    };
+    let names = entry.1.is_some();
+    write!(page.text, "    ({kind}, {status}, {names}) ∷\n")
+}
+
+fn push_nexts(page: &mut Page, machine: &SegmenterStateMachine) -> Result<(), AllocError> {
+    page.define("nexts", "List (List ℕ)")?;
+    for state in 0..machine.states().len() {
+        push_nexts_of(page, machine, state)?;
+    }
+    Ok(())
+}
+
+fn push_nexts_of(
     page: &mut Page,
     machine: &SegmenterStateMachine,
     state: usize,
 ) -> Result<(), AllocError> {
     page.push("    (")?;
-    for symbol in 0..=SYMBOLS {
+    for symbol in 0..NAMES.len() {
         let next = next(machine, state, symbol);
         write!(page.text, "{next} ∷ ")?;
     }
@@ -72,12 +87,12 @@ fn wait_from_start(
     waits: &mut Vec<bool>,
     todo: &mut Vec<State>,
 ) -> Result<(), AllocError> {
-    todo.push(SegmenterStateMachine::START_STATE)?;
-    for place in 0..=machine.states().len() {
-        let Some(state) = todo.get(place).copied() else {
+    wait(machine, SegmenterStateMachine::START_STATE, waits, todo)?;
+    for place in 0..machine.states().len() {
+        let Some(state) = todo.get(place) else {
             break;
         };
-        wait(machine, state, waits, todo)?;
+        wait(machine, *state, waits, todo)?;
     }
     Ok(())
 }
@@ -89,7 +104,7 @@ fn wait(
     waits: &mut Vec<bool>,
     todo: &mut Vec<State>,
 ) -> Result<(), AllocError> {
-    for symbol in 0..=SYMBOLS {
+    for symbol in 0..NAMES.len() {
         let to = next(machine, usize::from(state), symbol);
         let entry = machine.states().get(usize::from(to));
         if let Some((Acceptance::Continue, _)) = entry

@@ -110,12 +110,20 @@ fn push_opened(
     parts: usize,
     words: (&str, &str, &str),
 ) -> Result<(), AllocError> {
-    let (name, sign, after) = words;
     for number in 0..parts {
-        let opening = if number > 0 { "(" } else { "" };
-        write!(text, "{opening}{name}{sign}{number}{after}")?;
+        text.push_str(if number > 0 { "(" } else { "" })?;
+        push_numbered(text, words, number)?;
     }
     Ok(())
+}
+
+fn push_numbered(
+    text: &mut String,
+    words: (&str, &str, &str),
+    number: usize,
+) -> Result<(), AllocError> {
+    let (name, sign, after) = words;
+    write!(text, "{name}{sign}{number}{after}")
 }
 
 fn push_moves(page: &mut Page, moves: &[u16]) -> Result<(), AllocError> {
@@ -184,9 +192,18 @@ fn push_owed(page: &mut Page, is_below: bool, number: u8, live: u32) -> Result<(
     } else {
         rules().above
     };
-    let Some(row) = rows.get(usize::from(number)) else {
-        return Ok(());
-    };
+    match rows.get(usize::from(number)) {
+        Some(row) => push_owed_row(page, is_below, row, live),
+        None => Ok(()),
+    }
+}
+
+fn push_owed_row(
+    page: &mut Page,
+    is_below: bool,
+    row: &Row<'_>,
+    live: u32,
+) -> Result<(), AllocError> {
     page.push("Owed (")?;
     push_pattern(page, row.right)?;
     page.push(") ")?;

@@ -1,5 +1,6 @@
 //! The boundaries of texts in all encodings, counted in code points.
 
+use crate::data::both;
 use bench::found::{Found, shown};
 use bench::segmenter::{SegmenterBorrowed, Text};
 use icu_segmenter::GraphemeClusterSegmenterBorrowed;
@@ -38,8 +39,10 @@ pub fn has_same_clusters(
     other: GraphemeClusterSegmenterBorrowed<'_>,
     text: &str,
 ) -> Result<bool, AllocError> {
-    let found = SegmenterBorrowed::Clusters(one).boundaries(alloc, Text::Str(text))?;
-    let expected = SegmenterBorrowed::Clusters(other).boundaries(alloc, Text::Str(text))?;
+    let (found, expected) = both(
+        SegmenterBorrowed::Clusters(one).boundaries(alloc, Text::Str(text)),
+        SegmenterBorrowed::Clusters(other).boundaries(alloc, Text::Str(text)),
+    )?;
     Ok(found.as_slice() == expected.as_slice())
 }
 

@@ -4,7 +4,10 @@ use crate::options::Options;
 use crate::parts::{Kind, Parts, borrowed};
 use anyhow::Result;
 use bench::segmenter::SegmenterBorrowed;
-use icu_segmenter::options::{SentenceBreakInvariantOptions, WordBreakInvariantOptions};
+use icu_segmenter::options::{
+    LineBreakOptions, SentenceBreakInvariantOptions, WordBreakInvariantOptions,
+};
+use icu_segmenter::provider::{DataError, Dictionaries, RuleBreakData};
 use icu_segmenter::{
     GraphemeClusterSegmenterBorrowed, LineSegmenterBorrowed, SentenceSegmenterBorrowed,
     WordSegmenterBorrowed,
@@ -106,25 +109,38 @@ fn neo_lines<'a>(parts: &'a Parts, options: &Options) -> Result<LineSegmenterBor
 fn table_lines<'a>(parts: &'a Parts, options: &Options) -> Result<LineSegmenterBorrowed<'a>> {
     let table = borrowed(&parts.table)?;
     let clusters = borrowed(&parts.cluster_table)?;
-    let options = options.of_lines();
-    let lines = match &parts.first {
-        Some(first) => {
-            LineSegmenterBorrowed::new_dictionary(table, clusters, first.as_borrowed(), options)
+    Ok(lines_with(table, clusters, parts.first.as_ref(), options.of_lines())?)
+}
+
+fn lines_with<'a>(
+    table: &'a RuleBreakData,
+    clusters: &'a RuleBreakData,
+    words: Option<&'a Dictionaries>,
+    options: LineBreakOptions<'_>,
+) -> Result<LineSegmenterBorrowed<'a>, DataError> {
+    match words {
+        Some(words) => {
+            LineSegmenterBorrowed::new_dictionary(table, clusters, words.as_borrowed(), options)
         }
         None => LineSegmenterBorrowed::new_for_non_complex_scripts(table, clusters, options),
-    };
-    Ok(lines?)
+    }
 }
 
 fn lines_17<'a>(parts: &'a Parts, options: &Options) -> Result<LineSegmenterBorrowed<'a>> {
     let table = borrowed(&parts.table)?;
     let clusters = borrowed(&parts.cluster_table)?;
     let options = options.of_lines();
-    let mut lines = LineSegmenterBorrowed::new_17_for_non_complex_scripts(
-        table, clusters, options,
-    )?;
-    if let Some(first) = &parts.first {
-        lines.load_dictionary(first.as_borrowed());
+    let lines = LineSegmenterBorrowed::new_17_for_non_complex_scripts(table, clusters, options);
+    with_words(lines, parts.first.as_ref())
+}
+
+fn with_words<'a>(
+    made: Result<LineSegmenterBorrowed<'a>, DataError>,
+    words: Option<&'a Dictionaries>,
+) -> Result<LineSegmenterBorrowed<'a>> {
+    let mut lines = made?;
+    if let Some(words) = words {
+        lines.load_dictionary(words.as_borrowed());
     }
     Ok(lines)
 }

@@ -60,7 +60,10 @@ fn machine_like(
 }
 
 /// Two answers, or why the first that lacks is not there.
-pub fn both<A: Drop, B: Drop>(first: Result<A>, second: Result<B>) -> Result<(A, B)> {
+pub fn both<A: Drop, B: Drop, E: Drop>(
+    first: Result<A, E>,
+    second: Result<B, E>,
+) -> Result<(A, B), E> {
     Ok((first?, second?))
 }
 

@@ -13,8 +13,8 @@ macro_rules! named {
     };
 }
 
-// The constants of pair tables of lines, and then those of the engine 17.
-const LINE_CLASSES: [(&str, u8); 121] = named! {
+// The constants of pair tables of lines.
+const CLASSES: [(&str, u8); 53] = named! {
     LINE_PROPERTY_AI, LINE_PROPERTY_AK, LINE_PROPERTY_AL, LINE_PROPERTY_AL_DOTTED_CIRCLE,
     LINE_PROPERTY_AP, LINE_PROPERTY_AS, LINE_PROPERTY_B2, LINE_PROPERTY_BA, LINE_PROPERTY_BB,
     LINE_PROPERTY_BK, LINE_PROPERTY_CB, LINE_PROPERTY_CJ, LINE_PROPERTY_CL, LINE_PROPERTY_CM,
@@ -26,7 +26,12 @@ const LINE_CLASSES: [(&str, u8); 121] = named! {
     LINE_PROPERTY_PO_EAW, LINE_PROPERTY_PR, LINE_PROPERTY_PR_EAW, LINE_PROPERTY_QU,
     LINE_PROPERTY_QU_PF, LINE_PROPERTY_QU_PI, LINE_PROPERTY_RI, LINE_PROPERTY_SP,
     LINE_PROPERTY_SY, LINE_PROPERTY_VF, LINE_PROPERTY_VI, LINE_PROPERTY_WJ, LINE_PROPERTY_XX,
-    LINE_PROPERTY_ZW, LINE_PROPERTY_ZWJ, LINE_V3_PROPERTY_AI, LINE_V3_PROPERTY_AI_EASTASIAN,
+    LINE_PROPERTY_ZW, LINE_PROPERTY_ZWJ,
+};
+
+// Those of the engine 17.
+const V3_CLASSES: [(&str, u8); 68] = named! {
+    LINE_V3_PROPERTY_AI, LINE_V3_PROPERTY_AI_EASTASIAN,
     LINE_V3_PROPERTY_AK, LINE_V3_PROPERTY_AL, LINE_V3_PROPERTY_AL_DOTTED_CIRCLE,
     LINE_V3_PROPERTY_AL_EASTASIAN, LINE_V3_PROPERTY_AP, LINE_V3_PROPERTY_AS, LINE_V3_PROPERTY_B2,
     LINE_V3_PROPERTY_BA, LINE_V3_PROPERTY_BA_EASTASIAN, LINE_V3_PROPERTY_BB, LINE_V3_PROPERTY_BK,
@@ -54,5 +59,12 @@ pub fn line_class(alloc: Global, row: Row<'_>) -> Result<String> {
 }
 
 fn number_of_class(name: &str) -> Option<u8> {
-    meaning(&LINE_CLASSES, name)
+    match name.strip_prefix("LINE_V3_") {
+        Some(_) => number_in_v3(name),
+        None => meaning(&CLASSES, name),
+    }
+}
+
+fn number_in_v3(name: &str) -> Option<u8> {
+    meaning(&V3_CLASSES, name)
 }

@@ -1,13 +1,14 @@
 //! Boundaries by the memoised engine.
 
-use crate::data::machine_of;
+use crate::data::{both, machine_of};
 use crate::row::Row;
 use crate::samples::quoted;
 use anyhow::Result;
 use bench::found::push_word;
 use bench::segmenter::{SegmenterBorrowed, Text};
-use icu_segmenter::memo::MemoBreakIterator;
-use icu_segmenter::rule_segmenter_v2::ReadTransitions;
+use icu_segmenter::memo::{MemoBreakIterator, MemoError};
+use icu_segmenter::provider::SegmenterStateMachine;
+use icu_segmenter::rule_segmenter_v2::{CountedTransitions, ReadTransitions};
 use icu_segmenter::scaffold::Utf8;
 use icu_segmenter::{
     GraphemeClusterSegmenterBorrowed, LineSegmenterBorrowed, SentenceSegmenterBorrowed,
@@ -42,7 +43,7 @@ fn memo_of_clusters(
     let mut clusters = clusters.segment_str(text);
     let _ = clusters.next();
     let _ = clusters.next();
-    Ok(shown_memo(alloc, clusters.with_memo(alloc)?)?)
+    shown_if_made(alloc, clusters.with_memo(alloc))
 }
 
 fn memo_of_sentences(
@@ -50,24 +51,36 @@ fn memo_of_sentences(
     sentences: SentenceSegmenterBorrowed<'_>,
     text: &str,
 ) -> Result<String> {
-    Ok(shown_memo(alloc, sentences.segment_str(text).with_memo(alloc)?)?)
+    shown_if_made(alloc, sentences.segment_str(text).with_memo(alloc))
 }
 
 fn memo_of_words(alloc: Global, words: WordSegmenterBorrowed<'_>, text: &str) -> Result<String> {
-    Ok(shown_memo(alloc, words.segment_str(text).with_memo(alloc)?)?)
+    shown_if_made(alloc, words.segment_str(text).with_memo(alloc))
 }
 
 fn memo_of_lines(alloc: Global, lines: LineSegmenterBorrowed<'_>, text: &str) -> Result<String> {
-    Ok(shown_memo(alloc, lines.segment_str(text).with_memo(alloc)?)?)
+    shown_if_made(alloc, lines.segment_str(text).with_memo(alloc))
 }
 
 /// What the memoised engine finds by the machine of a row.
 pub fn look_ups(alloc: Global, row: Row<'_>) -> Result<String> {
-    let machine = machine_of(alloc, row)?;
-    let text = quoted(alloc, row)?;
-    let clusters = GraphemeClusterSegmenterBorrowed::new_neo(&machine)?;
-    let memo = clusters.segment_str(text.as_str()).with_memo(alloc)?;
-    Ok(shown_memo(alloc, memo)?)
+    let (machine, text) = both(machine_of(alloc, row), quoted(alloc, row))?;
+    look_ups_by(alloc, &machine, text.as_str())
+}
+
+fn look_ups_by(alloc: Global, machine: &SegmenterStateMachine, text: &str) -> Result<String> {
+    let clusters = GraphemeClusterSegmenterBorrowed::new_neo(machine)?;
+    shown_if_made(alloc, clusters.segment_str(text).with_memo(alloc))
+}
+
+// The memo of a `str`, or why there is none.
+type Made<'data, 's> = Result<
+    MemoBreakIterator<'data, 's, Utf8, CountedTransitions<'data>>,
+    MemoError,
+>;
+
+fn shown_if_made(alloc: Global, made: Made<'_, '_>) -> Result<String> {
+    Ok(shown_memo(alloc, made?)?)
 }
 
 /// What a memo gives: each place with its status and with how many look-ups there were when it came.

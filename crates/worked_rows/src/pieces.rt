@@ -106,15 +106,15 @@ fn run_cuts_by(
     payloads: ComplexPayloadsBorrowed<'_>,
 ) -> Result<String> {
     let text = quoted(alloc, row)?;
-    Ok(cuts_of(alloc, text.as_str(), payloads)?)
+    Ok(cuts_of(alloc, StrCharIndices::new(text.as_str()), payloads)?)
 }
 
-fn cuts_of(
+fn cuts_of<I: Cursor>(
     alloc: Global,
-    text: &str,
+    text: I,
     payloads: ComplexPayloadsBorrowed<'_>,
 ) -> Result<String, AllocError> {
-    let cuts: Vec<usize> = RunCuts::new(payloads, StrCharIndices::new(text)).collect(alloc)?;
+    let cuts: Vec<usize> = RunCuts::new(payloads, text).collect(alloc)?;
     shown_cuts(alloc, cuts.as_slice())
 }
 
@@ -150,18 +150,30 @@ fn push_pieces<I: Cursor>(
     pieces: &mut ScriptIterator<I>,
 ) -> Result<(), AllocError> {
     for _ in 0..u64::MAX {
-        let start = pieces.place();
-        let Some((piece, script)) = pieces.next_piece() else {
+        if !push_next(alloc, out, pieces)? {
             break;
-        };
-        let (end, part) = (pieces.place(), part_of(piece));
-        let mark = if part == Some((start, end)) { "" } else { "?" };
-        push_piece(alloc, out, start, end, script, mark)?;
+        }
     }
     if pieces.next_piece().is_some() {
         out.push('?')?;
     }
     Ok(())
+}
+
+// Adds the next piece, and says whether there is one.
+fn push_next<I: Cursor>(
+    alloc: Global,
+    out: &mut String,
+    pieces: &mut ScriptIterator<I>,
+) -> Result<bool, AllocError> {
+    let start = pieces.place();
+    let Some((piece, script)) = pieces.next_piece() else {
+        return Ok(false);
+    };
+    let (end, part) = (pieces.place(), part_of(piece));
+    let mark = if part == Some((start, end)) { "" } else { "?" };
+    push_piece(alloc, out, start, end, script, mark)?;
+    Ok(true)
 }
 
 // Where the only piece of a piece begins and ends; none where there are others.

@@ -72,14 +72,10 @@ impl<'a> Row<'a> {
     // Such a part among the lines of settings, of which other rows stand between.
     fn line_part(self, name: &str, anew: &str) -> Option<&'a str> {
         for line in self.lines.rsplit('\n') {
-            if let (Some(part), None) = (line.strip_prefix(self.whose), row_of(line)) {
-                let (found, words) = named(part);
-                if found == name {
-                    return Some(words);
-                }
-                if found == anew {
-                    return None;
-                }
+            match setting_in(line, self.whose) {
+                Some((found, words)) if found == name => return Some(words),
+                Some((found, _)) if found == anew => return None,
+                _ => {}
             }
         }
         None
@@ -110,6 +106,14 @@ fn own_part<'a>(parts: &'a str, name: &str) -> Option<&'a str> {
         }
     }
     None
+}
+
+// The part of a line of settings whose name begins so, without that beginning.
+fn setting_in<'a>(line: &'a str, whose: &str) -> Option<(&'a str, &'a str)> {
+    match row_of(line) {
+        Some(_) => None,
+        None => Some(named(line.strip_prefix(whose)?)),
+    }
 }
 
 // The name of a part, and what it holds.

@@ -20,14 +20,16 @@ fn print_dictionary<O: Write>(
     out: &mut O,
 ) -> io::Result<()> {
     match made {
-        Ok(dictionary) => {
-            let whole = is_word(&dictionary, "ภาษา");
-            let other = is_word(&dictionary, "ไทย");
-            let begun = is_word(&dictionary, "ภา");
-            writeln!(out, "ภาษา {whole}, ไทย {other}, ภา {begun}")
-        }
+        Ok(dictionary) => print_words(&dictionary, out),
         Err(fault) => writeln!(out, "{fault:?}"),
     }
+}
+
+fn print_words<O: Write>(dictionary: &DictionaryBreakData, out: &mut O) -> io::Result<()> {
+    let whole = is_word(dictionary, "ภาษา");
+    let other = is_word(dictionary, "ไทย");
+    let begun = is_word(dictionary, "ภา");
+    writeln!(out, "ภาษา {whole}, ไทย {other}, ภา {begun}")
 }
 
 // Whether a text is a word of a dictionary.

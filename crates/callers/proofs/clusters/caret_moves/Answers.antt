@@ -4,9 +4,9 @@ use Rattle.icu_segmenter.specs.NearBoundaries.{IsNearestAbove, IsNearestBelow}
 use Rattle.callers.proofs.clusters.caret_moves.Goals as goal
 
 pub returns-clause-left : goal.returns-clause-left
-returns-clause-left c =
-    subst (λ (places : List ℕ). IsNearestBelow places c.args.caret c.previous_boundary.result) c.new-cursor.ensures c.previous_boundary.ensures
+returns-clause-left g c =
+    subst (λ (places : List ℕ). IsNearestBelow places c.args.caret c.previous_boundary.result) c.over-cursor.ensures c.previous_boundary.ensures
 
 pub returns-clause-right : goal.returns-clause-right
-returns-clause-right c =
-    subst (λ (places : List ℕ). IsNearestAbove places c.args.caret c.next_boundary.result) c.new-cursor.ensures c.next_boundary.ensures
+returns-clause-right g c =
+    subst (λ (places : List ℕ). IsNearestAbove places c.args.caret c.next_boundary.result) c.over-cursor.ensures c.next_boundary.ensures
