@@ -29,7 +29,7 @@ const CLASSES: [(&str, u8); 53] = named! {
     LINE_PROPERTY_ZW, LINE_PROPERTY_ZWJ,
 };
 
-// Those of the engine 17.
+// The constants of lines by the engine 17.
 const V3_CLASSES: [(&str, u8); 68] = named! {
     LINE_V3_PROPERTY_AI, LINE_V3_PROPERTY_AI_EASTASIAN,
     LINE_V3_PROPERTY_AK, LINE_V3_PROPERTY_AL, LINE_V3_PROPERTY_AL_DOTTED_CIRCLE,
