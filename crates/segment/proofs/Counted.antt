@@ -3,7 +3,7 @@ use Rattle.std.proofs.Common.{◌≡◌, ℕ, Option, None, Some, List, IfErr, I
 use Rattle.std.proofs.KnownBytes.{Appends-trans}
 use Rattle.std.specs.Io.KnownBytes.{Appends}
 use Rattle.segment_text.specs.Fault.{IsReadFault}
-use Rattle.segment_output.specs.Output.{count_line}
+use Rattle.segment_text.specs.Counts.{count_line}
 use Rattle.segment_output.specs.Output.{Look, lines_at}
 use Rattle.segment_output.specs.Parts.{IsBegun, count_for, found_for, output_for, printed_behind, text_for}
 use Rattle.segment_text.specs.Preparation.{prepared}
@@ -15,11 +15,11 @@ use Rattle.segment_output.specs.Wrapper.{wrapping_of}
 use Rattle.segment_output.proofs.JoinedCuts.{lines-at_zero}
 use Rattle.segment_text.specs.Size.{size_of}
 use Rattle.std.specs.Option.{option_map}
-use Rattle.segment.specs.Job.{bound_in, count_by, numbers_of, said_by, text_of, IsBegunBy, IsDoneBy, IsOutputOf, IsPrintedBy, IsPrintingOf, IsTally, IsWorkOutput}
+use Rattle.segment.specs.Job.{bound_in, count_by, numbers_of, said_by, text_of, IsBegunBy, IsDoneBy, IsOutputOf, IsPrintedBy, IsPrintingOf, IsTally, IsActionOutput}
 use Rattle.segment_text.specs.declared.fault.Fault.{Fault}
 use Rattle.segment_text.specs.declared.size.Size.{Size}
 use Rattle.segment_text.specs.declared.size.Tally.{Tally}
-use Rattle.segment_output.specs.declared.output.Numbers.{Numbers}
+use Rattle.segment_text.specs.declared.counts.AskedCounts.{AskedCounts}
 use Rattle.segment_output.specs.declared.output.Style.{Style}
 use Rattle.segment_output.specs.declared.parts.Printing.{Printing}
 use Rattle.segment_output.specs.declared.parts.Printing.TheVariants.{Segments, Lines}
@@ -28,29 +28,29 @@ use Rattle.segment_text.specs.declared.preparation.Preparation.{Preparation}
 use Rattle.segment_output.specs.declared.segmenter.Segmenter.{Segmenter}
 use Rattle.segment_output.specs.declared.wrapper.Wrapper.{Wrapper}
 use Rattle.segment.specs.declared.job.Job.{Job}
-use Rattle.segment.specs.declared.job.Work.{Work}
-use Rattle.segment.specs.declared.job.ParagraphWork.{ParagraphWork}
-use Rattle.segment.specs.declared.job.Work.TheVariants.{Cut, Paragraphs, Wrap}
+use Rattle.segment.specs.declared.job.Action.{Action}
+use Rattle.segment.specs.declared.job.ParagraphAction.{ParagraphAction}
+use Rattle.segment.specs.declared.job.Action.TheVariants.{Cut, Paragraphs, Wrap}
 
 module _ (job : Job) (name : Option (List ℕ)) where
-  counted : (bytes : List ℕ) (old mid new : Option (List ℕ)) (numbers : Numbers) (tally : Tally) → numbers_of job.work ≡ Some numbers → IsTally job bytes tally
+  counted : (bytes : List ℕ) (old mid new : Option (List ℕ)) (numbers : AskedCounts) (tally : Tally) → numbers_of job.action ≡ Some numbers → IsTally job bytes tally
       → AppendsSome old mid (IsPrintedBy job (said_by job name) bytes) → Appends mid new (count_line numbers tally.segments tally.size name) → AppendsSome old new (IsOutputOf job name bytes)
   counted bytes old mid new numbers tally is are (written, printed, before) after =
-      let line : List ℕ = count_line numbers (count_by job.work (text_of job bytes)) (size_of bytes) name in
+      let line : List ℕ = count_line numbers (count_by job.action (text_of job bytes)) (size_of bytes) name in
       let adds : Appends mid new line =
-      subst (λ (size : Size). Appends mid new (count_line numbers (count_by job.work (text_of job bytes)) size name)) are.1
+      subst (λ (size : Size). Appends mid new (count_line numbers (count_by job.action (text_of job bytes)) size name)) are.1
       (subst (λ (segments : ℕ). Appends mid new (count_line numbers segments tally.size name)) are.0 after) in
       (written ++ line, (written, printed, rw is refl), Appends-trans old mid new written line before adds)
 
   -- where it is known what was read
-  pub counted-of : (read old mid new : Option (List ℕ)) (numbers : Numbers) (tally : Tally) → numbers_of job.work ≡ Some numbers
+  pub counted-of : (read old mid new : Option (List ℕ)) (numbers : AskedCounts) (tally : Tally) → numbers_of job.action ≡ Some numbers
       → IfSome read (λ bytes. IsTally job bytes tally × AppendsSome old mid (IsPrintedBy job (said_by job name) bytes)) → Appends mid new (count_line numbers tally.segments tally.size name)
       → IfSome read (λ bytes. IsTally job bytes tally × AppendsSome old new (IsOutputOf job name bytes))
   counted-of None old mid new numbers tally is printed after = tt
   counted-of (Some bytes) old mid new numbers tally is printed after = (printed.0, counted bytes old mid new numbers tally is printed.0 printed.1 after)
 
   -- where they aren't counted
-  pub uncounted-of : (read old new : Option (List ℕ)) (tally : Tally) → numbers_of job.work ≡ None
+  pub uncounted-of : (read old new : Option (List ℕ)) (tally : Tally) → numbers_of job.action ≡ None
       → IfSome read (λ bytes. IsTally job bytes tally × AppendsSome old new (IsPrintedBy job (said_by job name) bytes))
       → IfSome read (λ bytes. IsTally job bytes tally × AppendsSome old new (IsOutputOf job name bytes))
   uncounted-of None old new tally is printed = tt
@@ -79,7 +79,7 @@ begun-whole P Q (Err fault) is = λ of_reader. inl (is of_reader)
 
 -- what is written part by part is what is written of the whole
 module _ (file : Option (List ℕ)) where
-  pub printed-split : (work : Work) (printing : Printing) (text : List ℕ) → IsPrintingOf work file printing → IsWorkOutput work file text (printed_behind printing 0 text)
+  pub printed-split : (action : Action) (printing : Printing) (text : List ℕ) → IsPrintingOf action file printing → IsActionOutput action file text (printed_behind printing 0 text)
   printed-split (Cut segmenter style) (Segments one how name) text (same, is, named) =
       ap₂ (λ (segmenter : Segmenter) (look : Look). lines_at look 0 text (segments_by segmenter text)) same
       (ap₂ (λ (style : Style) (file : Option (List ℕ)). let look : Look = record { style = style; file = file } in look) is named)
@@ -87,14 +87,14 @@ module _ (file : Option (List ℕ)) where
   printed-split (Cut segmenter style) (Lines one) text is = absurd is
   printed-split (Wrap wrapper) (Segments one how name) text is = absurd is
   printed-split (Wrap wrapper) (Lines one) text is = ap (λ (wrapper : Wrapper). wrapped_output (wrapping_of wrapper) text) is
-  printed-split (Paragraphs work) printing text is = absurd is
+  printed-split (Paragraphs action) printing text is = absurd is
 
-  count-split : (work : Work) (printing : Printing) (text : List ℕ) → IsPrintingOf work file printing → count_for printing text ≡ count_by work text
+  count-split : (action : Action) (printing : Printing) (text : List ℕ) → IsPrintingOf action file printing → count_for printing text ≡ count_by action text
   count-split (Cut segmenter style) (Segments one how name) text (same, is, named) = ap (λ (segmenter : Segmenter). length (segments_by segmenter text)) same
   count-split (Cut segmenter style) (Lines one) text is = absurd is
   count-split (Wrap wrapper) (Segments one how name) text is = absurd is
   count-split (Wrap wrapper) (Lines one) text is = refl
-  count-split (Paragraphs work) printing text is = absurd is
+  count-split (Paragraphs action) printing text is = absurd is
 
   pub all-split : (job : Job) (splitting : Splitting) (read old new : Option (List ℕ)) (r : Result Tally Fault) → IsDoneBy job file splitting
       → IfOk r (λ tally. IfSome read (λ bytes. (tally.segments ≡ found_for splitting bytes) × (tally.size ≡ size_of bytes) × Appends old new (output_for splitting bytes)))
@@ -104,17 +104,17 @@ module _ (file : Option (List ℕ)) where
   all-split job splitting (Some bytes) old new (Ok tally) (same, is) (count, size, written) =
       let text : text_for splitting bytes ≡ text_of job bytes = ap (λ (preparation : Preparation). prepared preparation bytes) same in
       let printed : IsPrintedBy job file bytes (output_for splitting bytes) =
-      subst (IsPrintedBy job file bytes) (sym (ap (printed_behind splitting.printing 0) text)) (printed-split job.work splitting.printing (text_of job bytes) is) in
-      ((count ∙ ap (count_for splitting.printing) text ∙ count-split job.work splitting.printing (text_of job bytes) is, size), (output_for splitting bytes, printed, written))
+      subst (IsPrintedBy job file bytes) (sym (ap (printed_behind splitting.printing 0) text)) (printed-split job.action splitting.printing (text_of job bytes) is) in
+      ((count ∙ ap (count_for splitting.printing) text ∙ count-split job.action splitting.printing (text_of job bytes) is, size), (output_for splitting bytes, printed, written))
 
   -- and of balanced lines all is written at once
-  pub all-paragraphs : (job : Job) (work : ParagraphWork) (read old new : Option (List ℕ)) (r : Result Tally Fault) → job.work ≡ Paragraphs work
+  pub all-paragraphs : (job : Job) (action : ParagraphAction) (read old new : Option (List ℕ)) (r : Result Tally Fault) → job.action ≡ Paragraphs action
       → IfOk r (λ tally. IfSome read (λ bytes. (tally.segments ≡ 0) × (tally.size ≡ size_of bytes)
-      × AppendsSome old new (IsSetOutput (chosen_by work.wrapper work.fit) (option_map bound_in work.limit) (prepared job.preparation bytes))))
+      × AppendsSome old new (IsSetOutput (chosen_by action.wrapper action.fit) (option_map bound_in action.limit) (prepared job.preparation bytes))))
       → IfOk r (λ tally. IfSome read (λ bytes. IsTally job bytes tally × AppendsSome old new (IsPrintedBy job file bytes)))
-  all-paragraphs job work read old new (Err fault) is all = tt
-  all-paragraphs job work None old new (Ok tally) is all = tt
-  all-paragraphs job work (Some bytes) old new (Ok tally) is (count, size, written) = rw is ((count, size), written)
+  all-paragraphs job action read old new (Err fault) is all = tt
+  all-paragraphs job action None old new (Ok tally) is all = tt
+  all-paragraphs job action (Some bytes) old new (Ok tally) is (count, size, written) = rw is ((count, size), written)
 
   pub begun-split : (job : Job) (splitting : Splitting) (from to old new : Option (List ℕ)) (P : Type 0) (r : Result Tally Fault) → IsDoneBy job file splitting
       → IfErr r (λ fault. IsReadFault fault → P ⊎ IsBegun splitting from to old new) → IfErr r (λ fault. IsReadFault fault → P ⊎ IsBegunBy job file from to old new)

@@ -18,14 +18,14 @@ use Rattle.segment_output.specs.declared.segmenter.Engine.TheVariants as engine
 use Rattle.segment_output.specs.declared.segmenter.Kind.{Kind}
 use Rattle.segment_output.specs.declared.segmenter.Kind.TheVariants as kind
 use Rattle.segment.specs.declared.command.Request.{Request}
-use Rattle.segment.specs.declared.command.Task.{Task}
-use Rattle.segment.specs.declared.command.Task.TheVariants.{Cut, Paragraphs, Wrap}
+use Rattle.segment.specs.declared.command.RequestedAction.{RequestedAction}
+use Rattle.segment.specs.declared.command.RequestedAction.TheVariants.{Cut, Paragraphs, Wrap}
 use Rattle.seg_wrap.specs.declared.wrap.paragraphs.Fit.{Fit}
 use Rattle.seg_wrap.specs.declared.wrap.paragraphs.Fit.TheVariants.{Balanced, First}
 use Rattle.segment_text.specs.declared.limit.Limit.{Limit}
 use Rattle.segment_text.specs.declared.preparation.Preparation.{Preparation}
 use Rattle.segment_output.specs.declared.wrapper.Width.{Width}
-use Rattle.segment_output.specs.declared.output.Numbers.{Numbers}
+use Rattle.segment_text.specs.declared.counts.AskedCounts.{AskedCounts}
 use Rattle.segment_output.specs.declared.output.Style.{Style}
 use Rattle.segment_output.specs.declared.output.Style.TheVariants.{Escaped, Raw, ZeroEnded, Json, Offsets, Counted}
 
@@ -135,7 +135,7 @@ abbrev pub IsPreparation : List ℕ → Found → Preparation → Type 0
 IsPreparation word found preparation = AreTabs word found preparation.tabs × IsFlag found (codes "join") preparation.joins
 
 -- the numbers beside that of the segments are those that are named
-abbrev pub AreNumbers : Found → Numbers → Type 0
+abbrev pub AreNumbers : Found → AskedCounts → Type 0
 AreNumbers found numbers = IsFlag found (codes "lines") numbers.lines × IsFlag found (codes "bytes") numbers.bytes
 
 -- segments are written in the style that is named
@@ -157,7 +157,7 @@ IsChosen found Balanced = IsFlag found (codes "balanced") true
 IsChosen found First = IsFlag found (codes "balanced") false
 
 -- lines are wrapped so: paragraph by paragraph where they are balanced, words are hyphenated, or there may be only so many
-abbrev pub IsWrapping : Found → Width → Option Limit → Task → Type 0
+abbrev pub IsWrapping : Found → Width → Option Limit → RequestedAction → Type 0
 IsWrapping found width limit (Cut kind style engine) = ⊥
 IsWrapping found width limit (Wrap to) =
     (to ≡ width) × IsFlag found (codes "balanced") false × (first_value found (codes "hyphenate") ≡ None) × (limit ≡ None)
@@ -175,15 +175,15 @@ IsLimit found columns limit =
     → option_map (λ limit. limit.lines) limit ≡ Some (digits_value 10 digits))
     × IfSome limit (λ limit. (0 < limit.lines) × IsPlaceholder found columns limit.placeholder.now)
 
--- a task is the one that is named
-abbrev pub IsTask : List ℕ → Found → Task → Type 0
-IsTask word found (Cut kind style engine) =
+-- a action is the one that is named
+abbrev pub IsRequestedAction : List ℕ → Found → RequestedAction → Type 0
+IsRequestedAction word found (Cut kind style engine) =
     (word ≡ kind_word kind)
     × IsFlag found (codes "words") (is_alone kind)
     × IsStyle found style
     × IsEngine (first_value found (codes "engine")) engine
-IsTask word found task =
-    (word ≡ codes "wrap") × ((width : Width) × IsWidth found width × (limit : Option Limit) × IsLimit found width.columns limit × IsWrapping found width limit task)
+IsRequestedAction word found action =
+    (word ≡ codes "wrap") × ((width : Width) × IsWidth found width × (limit : Option Limit) × IsLimit found width.columns limit × IsWrapping found width limit action)
 
 -- all values of an argument
 abbrev pub values_of : Found → List ℕ → List (List ℕ)
@@ -198,7 +198,7 @@ abbrev pub IsRequest : List ℕ → Found → Request → Type 0
 IsRequest word found request =
     ArePaired found
     × IsPreparation word found request.preparation
-    × IsTask word found request.task
+    × IsRequestedAction word found request.action
     × IsChoice strictness_word (first_value found (codes "strictness")) request.strictness
     × IsChoice word_break_word (first_value found (codes "word-break")) request.word_option
     × (request.language ≡ option_map language_part (first_value found (codes "lang")))

@@ -4,8 +4,8 @@ use Rattle.icu_segmenter.specs.ScriptWords.{ScriptWords, no_words}
 use Rattle.icu_segmenter.specs.WordSets.{Words}
 use Rattle.segment_output.specs.declared.segmenter.Kind.{Kind}
 use Rattle.segment_output.specs.declared.segmenter.Kind.TheVariants as kind
-use Rattle.segment.specs.declared.command.Task.{Task}
-use Rattle.segment.specs.declared.command.Task.TheVariants.{Cut, Paragraphs, Wrap}
+use Rattle.segment.specs.declared.command.RequestedAction.{RequestedAction}
+use Rattle.segment.specs.declared.command.RequestedAction.TheVariants.{Cut, Paragraphs, Wrap}
 use Rattle.segment.specs.declared.lists.Choice.{Choice}
 use Rattle.segment.specs.declared.lists.Choice.TheVariants.{Nothing, WithoutCj, All}
 
@@ -16,8 +16,8 @@ choice_of (kind.Words alone) = All
 choice_of kind.Sentences = Nothing
 choice_of kind.Lines = WithoutCj
 
--- and those that a task takes
-abbrev pub choice_by : Task → Choice
+-- and those that a action takes
+abbrev pub choice_by : RequestedAction → Choice
 choice_by (Cut kind style engine) = choice_of kind
 choice_by (Wrap width) = WithoutCj
 choice_by (Paragraphs width setting) = WithoutCj

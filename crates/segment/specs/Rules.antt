@@ -9,8 +9,8 @@ use Rattle.segment_output.specs.declared.segmenter.Segmenter.{Segmenter}
 use Rattle.segment_output.specs.declared.segmenter.Segmenter.TheVariants.{Ruled}
 use Rattle.segment.specs.Command.{IsFlag, IsStyle}
 use Rattle.segment.specs.declared.job.Job.{Job}
-use Rattle.segment.specs.declared.job.Work.{Work}
-use Rattle.segment.specs.declared.job.Work.TheVariants.{Cut, Paragraphs, Wrap}
+use Rattle.segment.specs.declared.job.Action.{Action}
+use Rattle.segment.specs.declared.job.Action.TheVariants.{Cut, Paragraphs, Wrap}
 use Rattle.segment.specs.declared.rules.RulesRequest.{RulesRequest}
 
 -- a request has the file and the style that are named, and leaves segments out and shows the machine where it is asked for
@@ -28,11 +28,11 @@ IsByRules rules tokens (Ruled machine alone) = FindsPlaces rules machine × (alo
 IsByRules rules tokens segmenter = ⊥
 
 -- texts are cut by it, and their segments are written in a style
-abbrev pub IsWorkByRules : RowRules → Bool → Style → Work → Type 0
-IsWorkByRules rules tokens style (Cut segmenter how) = IsByRules rules tokens segmenter × (how ≡ style)
-IsWorkByRules rules tokens style (Wrap wrapper) = ⊥
-IsWorkByRules rules tokens style (Paragraphs setting) = ⊥
+abbrev pub IsActionByRules : RowRules → Bool → Style → Action → Type 0
+IsActionByRules rules tokens style (Cut segmenter how) = IsByRules rules tokens segmenter × (how ≡ style)
+IsActionByRules rules tokens style (Wrap wrapper) = ⊥
+IsActionByRules rules tokens style (Paragraphs setting) = ⊥
 
 -- and nothing is done to them first
 abbrev pub IsJobByRules : RowRules → Bool → Style → Job → Type 0
-IsJobByRules rules tokens style job = (job.preparation ≡ record { tabs = None; joins = false }) × (job.names_files ≡ false) × IsWorkByRules rules tokens style job.work
+IsJobByRules rules tokens style job = (job.preparation ≡ record { tabs = None; joins = false }) × (job.names_files ≡ false) × IsActionByRules rules tokens style job.action

@@ -4,10 +4,10 @@ ghost use Rattle.std.specs.Option.{option_map};
 ghost use Rattle.clap.specs.Matches.{first_value, found_of};
 ghost use Rattle.icu_segmenter.specs.Abbreviations.{abbreviations_of};
 ghost use Rattle.icu_segmenter.specs.WordSets.{IsSameSet};
-ghost use Rattle.segment.specs.Abbreviations.{list_name, listed_language, IsPlace};
+ghost use Rattle.segment.specs.Abbreviations.{list_name, listed_language, IsLocation};
 ghost use Rattle.segment.specs.Words.{code_points_in};
 
-use crate::command::{Request, Task};
+use crate::command::{Request, RequestedAction};
 use crate::folder::{folder_of, path_of};
 use crate::words::{text_of, without_mark, words_in};
 use anyhow::{Context, Result, ensure};
@@ -21,7 +21,7 @@ use std::rt::{Env, Files};
 
 /// Where abbreviations are.
 #[derive(Drop)]
-pub enum Place {
+pub enum Location {
     /// None are asked for.
     Nowhere,
     /// In this file.
@@ -32,46 +32,46 @@ pub enum Place {
 
 /// Where the abbreviations are that a request asks for: in the file that the command line names, or in the list of its language. The errors
 /// are a folder's name that isn't UTF-8, and being out of memory.
-pub fn place_of<R: AllocGlobal + Env>(
+pub fn location_of<R: AllocGlobal + Env>(
     rt: &R,
     request: &Request<'_>,
     matches: &ArgMatches<'_>,
-) -> Result<Place> {
+) -> Result<Location> {
     let folder = match listed_language(request) {
         Some(_) => folder_of(rt, matches)?,
         None => None,
     };
-    Ok(named_place(rt.alloc(), request, matches, folder.as_deref())?)
+    Ok(named_location(rt.alloc(), request, matches, folder.as_deref())?)
 }
 
 // The language whose list is asked for: that of sentences.
 fn listed_language<'r>(request: &'r Request<'_>) -> Option<&'r LanguageIdentifier>
     ensures { option_map (λ language. language.now) result ≡ listed_language request.now }
 {
-    match request.task {
-        Task::Cut(Kind::Sentences, _, _) => request.language.as_ref(),
+    match request.action {
+        RequestedAction::Cut(Kind::Sentences, _, _) => request.language.as_ref(),
         _ => None,
     }
 }
 
 // The file that is named, or the list of the language in the folder. Fails only when out of memory.
-fn named_place(
+fn named_location(
     alloc: Global,
     request: &Request<'_>,
     matches: &ArgMatches<'_>,
     folder: Option<&str>,
-) -> Result<Place, AllocError>
-    ensures { IfOk result (IsPlace (first_value (found_of matches.now) (codes "abbreviations")) (listed_language request.now) (option_map (λ folder. folder.now) folder.entry)) }
+) -> Result<Location, AllocError>
+    ensures { IfOk result (IsLocation (first_value (found_of matches.now) (codes "abbreviations")) (listed_language request.now) (option_map (λ folder. folder.now) folder.entry)) }
 {
     let file = matches.get_str("abbreviations");
     match (file, listed_language(request), folder) {
-        (Some(file), _, _) => Ok(Place::InFile(String::from_str(alloc, file)?)),
+        (Some(file), _, _) => Ok(Location::InFile(String::from_str(alloc, file)?)),
         (None, Some(language), Some(folder)) => {
             let name = list_name(alloc, language)?;
-            Ok(Place::InFile(path_of(alloc, folder, name.as_str())?))
+            Ok(Location::InFile(path_of(alloc, folder, name.as_str())?))
         }
-        (None, Some(_), None) => Ok(Place::InNoFolder),
-        (None, None, _) => Ok(Place::Nowhere),
+        (None, Some(_), None) => Ok(Location::InNoFolder),
+        (None, None, _) => Ok(Location::Nowhere),
     }
 }
 
@@ -84,17 +84,17 @@ fn list_name(alloc: Global, language: &LanguageIdentifier) -> Result<String, All
     Ok(name)
 }
 
-/// The abbreviations in a place. The errors are a file that can't be read, isn't UTF-8 or has none, which is named, and being out of memory.
+/// The abbreviations at a location. The errors are a file that can't be read, isn't UTF-8 or has none, which is named, and being out of memory.
 pub fn abbreviations_at<R: AllocGlobal + Files>(
     rt: &R,
-    place: &Place,
+    location: &Location,
 ) -> Result<Option<Abbreviations>> {
-    match place {
-        Place::InFile(path) => {
+    match location {
+        Location::InFile(path) => {
             let read = read_abbreviations(rt, path.as_str());
             Ok(Some(read.context(format_args!("{path}"))?))
         }
-        Place::Nowhere | Place::InNoFolder => Ok(None),
+        Location::Nowhere | Location::InNoFolder => Ok(None),
     }
 }
 

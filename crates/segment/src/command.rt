@@ -6,23 +6,24 @@ ghost use Rattle.std.specs.Str.{str_to_ascii_lowercase};
 ghost use Rattle.icu_segmenter.specs.declared.provider.ComplexScript.{ComplexScript as AnyScript};
 ghost use Rattle.clap.specs.Matches.{found_of};
 ghost use Rattle.segment_output.specs.declared.segmenter.Kind.{Kind as AnyKind};
-ghost use Rattle.segment.specs.Command.{is_alone, is_control, kind_word, language_part, strictness_word, word_break_word, ArePaired, HasScriptWord, IsChoice, IsEngine, IsRequest, IsStyle, IsTask, IsIndent, IsLimit, IsWrapping, IsWidth, AreColumns, AreNumbers, AreTabs, IsPreparation};
+ghost use Rattle.segment.specs.Command.{is_alone, is_control, kind_word, language_part, strictness_word, word_break_word, ArePaired, HasScriptWord, IsChoice, IsEngine, IsRequest, IsStyle, IsRequestedAction, IsIndent, IsLimit, IsWrapping, IsWidth, AreColumns, AreNumbers, AreTabs, IsPreparation};
 
 use anyhow::{Context, Result, bail, ensure};
 use clap::ArgMatches;
 use icu_segmenter::options::{LanguageIdentifier, LineBreakStrictness, LineBreakWordOption};
 use icu_segmenter::provider::ComplexScript;
 use icu_segmenter::wrap::{Fit, utf8_columns};
-use segment_output::output::{Numbers, Style};
+use segment_output::output::Style;
 use segment_output::segmenter::{Engine, Kind};
 use segment_output::wrapper::Width;
 use segment_output::wrapper::limited::Setting;
+use segment_text::counts::AskedCounts;
 use segment_text::limit::Limit;
 use segment_text::preparation::Preparation;
 
 /// What is done to a text.
 #[derive(Clone, Copy)]
-pub enum Task<'a> {
+pub enum RequestedAction<'a> {
     /// It is cut into segments: what is found, how it is written, and what finds the boundaries.
     Cut(Kind, Style, Engine),
     /// Its lines are wrapped.
@@ -37,36 +38,13 @@ pub struct Request<'a> {
     /// What is done to each text first.
     pub preparation: Preparation,
     /// What is done.
-    pub task: Task<'a>,
+    pub action: RequestedAction<'a>,
     /// Of lines, how strict they are.
     pub strictness: Option<LineBreakStrictness>,
     /// Of lines, whether they break within words.
     pub word_option: Option<LineBreakWordOption>,
     /// Of lines and sentences, the language of the text.
     pub language: Option<LanguageIdentifier>,
-}
-
-/// Where the command line says to how many columns lines are wrapped.
-#[derive(Clone, Copy, PartialEq, Eq)]
-pub enum Columns {
-    /// Before the files, if anywhere.
-    InPlace,
-    /// In an option, if anywhere.
-    InOption,
-}
-
-/// Where the words of a command line say it.
-pub fn columns_by(words: &[String]) -> Columns {
-    for word in words.iter() {
-        let word = word.as_str();
-        if word == "--" {
-            return Columns::InPlace;
-        }
-        if word == "--width" || word.starts_with("--width=") {
-            return Columns::InOption;
-        }
-    }
-    Columns::InPlace
 }
 
 // Of lines that are wrapped, where the command line says nothing.
@@ -83,7 +61,7 @@ pub fn request_of<'a>(kind: &str, matches: &ArgMatches<'a>) -> Result<Request<'a
     check_dictionaries(matches)?;
     Ok(Request {
         preparation: preparation_of(kind, matches)?,
-        task: task_of(kind, matches)?,
+        action: action_of(kind, matches)?,
         strictness: strictness_of(matches.get_str("strictness")),
         word_option: word_option_of(matches.get_str("word-break")),
         language: language_of(matches.get_str("lang"))?,
@@ -126,8 +104,8 @@ fn check_scripts(scripts: &[&str]) -> Result<()> {
     Ok(())
 }
 
-fn task_of<'a>(kind: &str, matches: &ArgMatches<'a>) -> Result<Task<'a>>
-    ensures { IfOk result (IsTask kind.now (found_of matches.now)) }
+fn action_of<'a>(kind: &str, matches: &ArgMatches<'a>) -> Result<RequestedAction<'a>>
+    ensures { IfOk result (IsRequestedAction kind.now (found_of matches.now)) }
 {
     if kind == "wrap" {
         let width = width_of(matches)?;
@@ -136,21 +114,25 @@ fn task_of<'a>(kind: &str, matches: &ArgMatches<'a>) -> Result<Task<'a>>
     }
     let kind = kind_of(kind, matches.get_flag("words"))?;
     let engine = engine_of(matches.get_str("engine"))?;
-    Ok(Task::Cut(kind, style_of(matches), engine))
+    Ok(RequestedAction::Cut(kind, style_of(matches), engine))
 }
 
 // How lines are wrapped to a width, as many as there may be.
-fn wrapped_to<'a>(width: Width<'a>, limit: Option<Limit<'a>>, matches: &ArgMatches<'a>) -> Task<'a>
+fn wrapped_to<'a>(
+    width: Width<'a>,
+    limit: Option<Limit<'a>>,
+    matches: &ArgMatches<'a>,
+) -> RequestedAction<'a>
     ensures { IsWrapping (found_of matches.now) width.entry limit.entry result }
 {
     if matches.get_flag("balanced") {
         let fit = Fit::Balanced;
-        Task::Paragraphs(width, Setting { fit, limit })
+        RequestedAction::Paragraphs(width, Setting { fit, limit })
     } else if matches.get_str("hyphenate").is_some() || limit.is_some() {
         let fit = Fit::First;
-        Task::Paragraphs(width, Setting { fit, limit })
+        RequestedAction::Paragraphs(width, Setting { fit, limit })
     } else {
-        Task::Wrap(width)
+        RequestedAction::Wrap(width)
     }
 }
 
@@ -282,10 +264,10 @@ pub fn style_of(matches: &ArgMatches<'_>) -> Style
     }
 }
 
-fn numbers_of(matches: &ArgMatches<'_>) -> Numbers
+fn numbers_of(matches: &ArgMatches<'_>) -> AskedCounts
     ensures { AreNumbers (found_of matches.now) result }
 {
-    Numbers {
+    AskedCounts {
         lines: matches.get_flag("lines"),
         bytes: matches.get_flag("bytes"),
     }

@@ -3,7 +3,7 @@ ghost use Rattle.std.specs.Prelude.{◌≡◌};
 ghost use Rattle.icu_segmenter.specs.ScriptWords.{words_of, script_words};
 ghost use Rattle.segment.specs.Dictionaries.{words_with};
 
-use crate::command::{Task, script_of};
+use crate::command::{RequestedAction, script_of};
 use crate::folder::{folder_dictionaries, folder_of};
 use crate::lists::{Choice, choice_by};
 use crate::words::{text_of, without_mark, words_in};
@@ -14,16 +14,16 @@ use std::alloc::Global;
 use std::fs;
 use std::rt::{Env, Files};
 
-/// The dictionaries that a task has: of the files that are named, one word a line, each in its script's place, and of a folder's lists for
+/// The dictionaries that a action has: of the files that are named, one word a line, each in its script's place, and of a folder's lists for
 /// the other scripts. The errors are a file that can't be read, isn't UTF-8 or has no words, and a folder without lists, which are named, and
 /// being out of memory.
 pub fn dictionaries_of<R: AllocGlobal + Files + Env>(
     rt: &R,
-    task: Task<'_>,
+    action: RequestedAction<'_>,
     matches: &ArgMatches<'_>,
 ) -> Result<Dictionaries> {
     let mut dictionaries = named_dictionaries(rt, matches)?;
-    dictionaries.fill(more_dictionaries(rt, choice_by(task), matches)?);
+    dictionaries.fill(more_dictionaries(rt, choice_by(action), matches)?);
     Ok(dictionaries)
 }
 

@@ -2,7 +2,7 @@
 
 use crate::job::Job;
 use crate::run::run;
-use segment_output::output::write_count;
+use segment_text::counts::write_count;
 use segment_text::fault::Fault;
 use segment_text::size::{Size, Tally};
 use std::io::ErrorKind;
@@ -51,7 +51,7 @@ fn try_run_all(rt: &HostRuntime, job: &Job, names: &[&str]) -> io::Result<Totals
     for name in names {
         add_file(rt, job, Some(name), &mut totals)?;
     }
-    if let Some(numbers) = job.numbers()
+    if let Some(numbers) = job.asked_counts()
         && names.len() > 1
     {
         write_count(

@@ -4,17 +4,18 @@ ghost use Rattle.std.specs.Option.{option_map};
 ghost use Rattle.icu_segmenter.specs.Abbreviations.{abbreviations_of};
 ghost use Rattle.icu_segmenter.specs.ScriptWords.{script_words};
 ghost use Rattle.segment_output.specs.Limited.{bound_of};
-ghost use Rattle.segment.specs.Job.{numbers_of, said_by, AreOptions, IsAsked, IsAskedWork, IsWrapperFor, bound_in};
+ghost use Rattle.segment.specs.Job.{numbers_of, said_by, AreOptions, IsAsked, IsAskedAction, IsWrapperFor, bound_in};
 
-use crate::command::{Request, Task};
+use crate::command::{Request, RequestedAction};
 use anyhow::Result;
 use icu_segmenter::options::LineBreakOptions;
 use icu_segmenter::wrap::Fit;
-use segment_output::output::{Numbers, Style};
+use segment_output::output::Style;
 use segment_output::segmenter::{Segmenter, segmenter_of};
 use segment_output::vocabulary::Vocabulary;
 use segment_output::wrapper::limited::Setting;
 use segment_output::wrapper::{Width, Wrapper, wrapper_of};
+use segment_text::counts::AskedCounts;
 use segment_text::limit::Limit;
 use segment_text::preparation::Preparation;
 use std::alloc::Global;
@@ -25,25 +26,25 @@ pub struct Job {
     /// What is done to it first.
     pub preparation: Preparation,
     /// And what then.
-    pub work: Work,
+    pub action: Action,
     /// Whether objects and offsets say the name of their file.
     pub names_files: bool,
 }
 
 /// What is done to a text, with all that it takes.
 #[derive(Drop)]
-pub enum Work {
+pub enum Action {
     /// It is cut into segments: by what, and how they are written.
     Cut(Segmenter, Style),
     /// Its lines are wrapped.
     Wrap(Wrapper),
     /// Its lines are chosen paragraph by paragraph.
-    Paragraphs(ParagraphWork),
+    Paragraphs(ParagraphAction),
 }
 
 /// How paragraphs are set, with all that it takes.
 #[derive(Drop)]
-pub struct ParagraphWork {
+pub struct ParagraphAction {
     /// What wraps their lines.
     pub wrapper: Wrapper,
     /// How lines are chosen.
@@ -52,7 +53,7 @@ pub struct ParagraphWork {
     pub limit: Option<OwnedLimit>,
 }
 
-impl ParagraphWork {
+impl ParagraphAction {
     /// How paragraphs are set.
     pub fn setting(&self) -> Setting<'_>
         ensures fit { result.fit ≡ self.now.fit }
@@ -95,11 +96,11 @@ fn kept_limit(alloc: Global, limit: Option<Limit<'_>>) -> Result<Option<OwnedLim
 
 impl Job {
     /// The numbers beside that of the segments, where these are only counted.
-    pub fn numbers(&self) -> Option<Numbers>
-        ensures { result ≡ numbers_of self.now.work }
+    pub fn asked_counts(&self) -> Option<AskedCounts>
+        ensures { result ≡ numbers_of self.now.action }
     {
-        match &self.work {
-            Work::Cut(_, Style::Counted(numbers)) => Some(*numbers),
+        match &self.action {
+            Action::Cut(_, Style::Counted(numbers)) => Some(*numbers),
             _ => None,
         }
     }
@@ -116,26 +117,26 @@ impl Job {
 pub fn job_of(alloc: Global, request: &Request<'_>, words: Vocabulary) -> Result<Job>
     ensures { IfOk result (λ job. IsAsked request.now (script_words words.dictionaries) (option_map abbreviations_of words.abbreviations) words.patterns job) }
 {
-    let work = work_of(alloc, request, words)?;
+    let action = action_of(alloc, request, words)?;
     Ok(Job {
         preparation: request.preparation,
-        work,
+        action,
         names_files: false,
     })
 }
 
-fn work_of(alloc: Global, request: &Request<'_>, words: Vocabulary) -> Result<Work>
-    ensures { IfOk result (λ work. IsAskedWork request.now (script_words words.dictionaries) (option_map abbreviations_of words.abbreviations) words.patterns work) }
+fn action_of(alloc: Global, request: &Request<'_>, words: Vocabulary) -> Result<Action>
+    ensures { IfOk result (λ action. IsAskedAction request.now (script_words words.dictionaries) (option_map abbreviations_of words.abbreviations) words.patterns action) }
 {
-    match request.task {
-        Task::Cut(kind, style, engine) => {
+    match request.action {
+        RequestedAction::Cut(kind, style, engine) => {
             let segmenter = segmenter_of(alloc, kind, engine, options_of(request), words)?;
-            Ok(Work::Cut(segmenter, style))
+            Ok(Action::Cut(segmenter, style))
         }
-        Task::Wrap(width) => Ok(Work::Wrap(wrapper_by(alloc, width, request, words)?)),
-        Task::Paragraphs(width, setting) => {
+        RequestedAction::Wrap(width) => Ok(Action::Wrap(wrapper_by(alloc, width, request, words)?)),
+        RequestedAction::Paragraphs(width, setting) => {
             let limit = kept_limit(alloc, setting.limit)?;
-            Ok(Work::Paragraphs(ParagraphWork {
+            Ok(Action::Paragraphs(ParagraphAction {
                 wrapper: wrapper_by(alloc, width, request, words)?,
                 fit: setting.fit,
                 limit,

@@ -5,7 +5,7 @@ ghost use Rattle.icu_segmenter.specs.ScriptWords.{words_of, script_words};
 ghost use Rattle.icu_segmenter.specs.WordSets.{Words};
 ghost use Rattle.segment.specs.Lists.{choice_by, AreListed};
 
-use crate::command::Task;
+use crate::command::RequestedAction;
 use anyhow::Result;
 use icu_segmenter::provider::{Dictionaries, DictionaryBreakData};
 use segment_output::segmenter::Kind;
@@ -31,15 +31,15 @@ pub trait ReadLists {
         ensures { IfOk result (λ read. IfSome (lists self.now name.now) (λ words. option_map words_of read ≡ words)) };
 }
 
-/// The lists that a task takes.
-pub fn choice_by(task: Task<'_>) -> Choice
-    ensures { result ≡ choice_by task.entry }
+/// The lists that a action takes.
+pub fn choice_by(action: RequestedAction<'_>) -> Choice
+    ensures { result ≡ choice_by action.entry }
 {
-    match task {
-        Task::Cut(Kind::Words { .. }, _, _) => Choice::All,
-        Task::Cut(Kind::Lines, _, _) => Choice::WithoutCj,
-        Task::Cut(_, _, _) => Choice::Nothing,
-        Task::Wrap(_) | Task::Paragraphs(_, _) => Choice::WithoutCj,
+    match action {
+        RequestedAction::Cut(Kind::Words { .. }, _, _) => Choice::All,
+        RequestedAction::Cut(Kind::Lines, _, _) => Choice::WithoutCj,
+        RequestedAction::Cut(_, _, _) => Choice::Nothing,
+        RequestedAction::Wrap(_) | RequestedAction::Paragraphs(_, _) => Choice::WithoutCj,
     }
 }
 

@@ -3,7 +3,6 @@
 #![tactic(auto)]
 
 mod abbreviations;
-mod arguments;
 mod command;
 mod dictionary;
 mod files;
@@ -16,17 +15,17 @@ mod run;
 mod shown;
 mod words;
 
-use abbreviations::{Place, abbreviations_at, place_of};
+use abbreviations::{Location, abbreviations_at, location_of};
 use anyhow::{Result, bail};
-use arguments::command_line;
 use clap::ArgMatches;
 use clap::error::ErrorKind;
-use command::{Columns, Request, columns_by, request_of};
+use command::{Request, request_of};
 use dictionary::dictionaries_of;
 use files::run_all;
 use job::{Job, job_of};
 use patterns::patterns_of;
 use rules::{OwnRules, RulesRequest, job_by, rules_at, rules_request_of};
+use segment_arguments::{Columns, columns_by, command_line};
 use segment_output::vocabulary::Vocabulary;
 use std::env;
 use std::process::ExitCode;
@@ -144,16 +143,16 @@ fn run_request(
     request: &Request<'_>,
     matches: &ArgMatches<'_>,
 ) -> Result<ExitCode> {
-    let place = place_of(rt, request, matches)?;
-    if let Place::InNoFolder = &place {
+    let location = location_of(rt, request, matches)?;
+    if let Location::InNoFolder = &location {
         return refuse(
             rt,
             &"'--lang <LANGUAGE>' needs '--dictionaries <FOLDER>' or SEGMENT_DICTIONARIES",
         );
     }
-    let abbreviations = abbreviations_at(rt, &place)?;
+    let abbreviations = abbreviations_at(rt, &location)?;
     let words = Vocabulary {
-        dictionaries: dictionaries_of(rt, request.task, matches)?,
+        dictionaries: dictionaries_of(rt, request.action, matches)?,
         abbreviations,
         patterns: patterns_of(rt, matches)?,
     };

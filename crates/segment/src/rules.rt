@@ -6,7 +6,7 @@ ghost use Rattle.seg_rules.specs.Passed.{FindsPlaces};
 ghost use Rattle.segment.specs.Rules.{IsJobByRules, IsRulesRequest};
 
 use crate::command::style_of;
-use crate::job::{Job, Work};
+use crate::job::{Action, Job};
 use crate::words::{text_of, without_mark};
 use anyhow::{Result, bail};
 use clap::ArgMatches;
@@ -162,7 +162,7 @@ pub fn job_by(rules: OwnRules, tokens: bool, style: Style) -> Job
             tabs: None,
             joins: false,
         },
-        work: Work::Cut(Segmenter::Ruled(machine, tokens), style),
+        action: Action::Cut(Segmenter::Ruled(machine, tokens), style),
         names_files: false,
     }
 }

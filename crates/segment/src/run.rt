@@ -9,9 +9,9 @@ ghost use Rattle.segment_text.specs.Size.{size_of};
 ghost use Rattle.segment_text.specs.Preparation.{prepared};
 ghost use Rattle.segment.specs.Job.{said_by, IsBegunBy, IsOutputOf, IsPrintedBy, IsTally, bound_in};
 
-use crate::job::{Job, ParagraphWork, Work};
-use segment_output::output::write_count;
+use crate::job::{Action, Job, ParagraphAction};
 use segment_output::parts::{Printing, Splitting, print_parts};
+use segment_text::counts::write_count;
 use segment_text::fault::Fault;
 use segment_text::preparation::Preparation;
 use segment_text::size::{Size, Tally};
@@ -39,7 +39,7 @@ pub fn run<I: Read, O: Write>(
         Ok(tally) => tally,
         Err(fault) => return Err(fault),
     };
-    let Some(numbers) = job.numbers() else {
+    let Some(numbers) = job.asked_counts() else {
         return Ok(tally);
     };
     match write_count(alloc, numbers, tally, name, out) {
@@ -90,11 +90,11 @@ fn print_job<I: Read, O: Write>(
         ⊎ IsBegunBy job.now (option_map (λ name. name.now) file.entry) (I.remaining input.old) (I.remaining input.new) (O.contents out.old) (O.contents out.new)) }
 {
     let preparation = job.preparation;
-    let printing = match &job.work {
-        Work::Cut(segmenter, style) => Printing::Segments(segmenter, *style, file),
-        Work::Wrap(wrapper) => Printing::Lines(wrapper),
-        Work::Paragraphs(work) => {
-            return print_paragraphs(alloc, work, preparation, input, out);
+    let printing = match &job.action {
+        Action::Cut(segmenter, style) => Printing::Segments(segmenter, *style, file),
+        Action::Wrap(wrapper) => Printing::Lines(wrapper),
+        Action::Paragraphs(action) => {
+            return print_paragraphs(alloc, action, preparation, input, out);
         }
     };
     let splitting = Splitting {
@@ -130,20 +130,20 @@ fn print_whole<I: Read, O: Write>(
 // Writes the lines of the paragraphs of a text, all of which is read first.
 fn print_paragraphs<I: Read, O: Write>(
     alloc: Global,
-    work: &ParagraphWork,
+    action: &ParagraphAction,
     preparation: Preparation,
     input: &mut I,
     out: &mut O,
 ) -> Result<Tally, Fault>
     ensures read_all { OnOk result (IsAtEnd (I.remaining input.new)) }
     ensures written { IfOk result (λ tally. IfSome (I.remaining input.old) (λ bytes. (tally.segments ≡ 0) × (tally.size ≡ size_of bytes)
-        × AppendsSome (O.contents out.old) (O.contents out.new) (IsSetOutput (chosen_by work.now.wrapper work.now.fit) (option_map bound_in work.now.limit) (prepared preparation bytes)))) }
+        × AppendsSome (O.contents out.old) (O.contents out.new) (IsSetOutput (chosen_by action.now.wrapper action.now.fit) (option_map bound_in action.now.limit) (prepared preparation bytes)))) }
     ensures unwritten { IfErr result (λ fault. IsReadFault fault → out.new ≡ out.old) }
 {
     let (text, size) = read_prepared(alloc, preparation, input)?;
-    match work
+    match action
         .wrapper
-        .print_set(alloc, work.setting(), text.as_slice(), out)
+        .print_set(alloc, action.setting(), text.as_slice(), out)
     {
         Ok(()) => Ok(Tally { segments: 0, size }),
         Err(error) => Err(Fault::of_writing(error)),

@@ -8,11 +8,10 @@ use Rattle.json.specs.Token.{Token, begin_object, end_object, key, string, numbe
 use Rattle.icu_segmenter.specs.WordRules.{is_word_like}
 use Rattle.icu_segmenter.specs.declared.options.WordType.{WordType}
 use Rattle.icu_segmenter.specs.declared.options.WordType.TheVariants as word
+use Rattle.segment_text.specs.Counts.{line_end}
 use Rattle.segment_text.specs.Escapes.{escaped}
 use Rattle.segment_output.specs.declared.marks.Mark.{Mark}
 use Rattle.segment_output.specs.declared.marks.Mark.TheVariants.{Unmarked, Word, Line, Rule}
-use Rattle.segment_text.specs.declared.size.Size.{Size}
-use Rattle.segment_output.specs.declared.output.Numbers.{Numbers}
 use Rattle.segment_output.specs.declared.output.Part.{Part}
 use Rattle.segment_output.specs.declared.output.Style.{Style}
 use Rattle.segment_output.specs.declared.output.Style.TheVariants.{Escaped, Raw, ZeroEnded, Json, Offsets, Counted}
@@ -85,11 +84,6 @@ pub record Look : Type 0 where
   pub style : Style
   pub file : Option (List ℕ)
 
--- the end of a line: a name after a space, if there is one, and a line feed
-abbrev pub line_end : Option (List ℕ) → List ℕ
-line_end None = 10 ∷ []
-line_end (Some name) = 32 ∷ name ++ 10 ∷ []
-
 -- the line of a segment, where the second is what is shown of its places; where segments are only counted, it has none
 abbrev pub line_in : Style → Option (List ℕ) → List ℕ → Segment → Segment → List ℕ
 line_in Escaped file text segment shown = escaped (units_of text segment) ++ 10 ∷ []
@@ -97,7 +91,7 @@ line_in Raw file text segment shown = units_of text segment ++ 10 ∷ []
 line_in ZeroEnded file text segment shown = units_of text segment ++ 0 ∷ []
 line_in Json file text segment shown = print (object_of file (units_of text segment) shown) ++ 10 ∷ []
 line_in Offsets file text segment shown = decimal shown.from ++ 32 ∷ decimal shown.to ++ line_end file
-line_in (Counted numbers) file text segment shown = []
+line_in (Counted asked) file text segment shown = []
 
 abbrev pub line_with : Look → List ℕ → Segment → Segment → List ℕ
 line_with look text segment shown = line_in look.style look.file text segment shown
@@ -127,17 +121,3 @@ look_of part = record { style = part.style; file = option_map (λ name. name.now
 abbrev pub ended : Option ℕ → ℕ × Mark → List Segment
 ended None end = []
 ended (Some start) end = record { from = start; to = end.0; mark = end.1 } ∷ []
-
--- ---- counts
-
--- a number beside another, if it is asked for
-abbrev pub beside : Bool → ℕ → List ℕ
-beside is_asked count = if is_asked then 32 ∷ decimal count else []
-
--- how many segments there are, and the line feeds and bytes of the text that are asked for
-abbrev pub counts : Numbers → ℕ → Size → List ℕ
-counts numbers segments size = decimal segments ++ beside numbers.lines size.lines ++ beside numbers.bytes size.bytes
-
--- and the name of what they were counted in, if it has one
-abbrev pub count_line : Numbers → ℕ → Size → Option (List ℕ) → List ℕ
-count_line numbers segments size name = counts numbers segments size ++ line_end name

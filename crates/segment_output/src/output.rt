@@ -4,7 +4,7 @@ ghost use Rattle.std.specs.Io.KnownBytes.{Appends};
 ghost use Rattle.std.specs.Iterator.{IsFinite, YieldsThen};
 ghost use Rattle.std.specs.List.{slice_range};
 ghost use Rattle.segment_output.specs.Gathered.{AreGathered};
-ghost use Rattle.segment_output.specs.Output.{beside, count_line, counts, line_end, look_of, segments, line_at, lines_at};
+ghost use Rattle.segment_output.specs.Output.{look_of, segments, line_at, lines_at};
 ghost use Rattle.segment_output.specs.Stretch.{IsStretch};
 ghost use Rattle.segment_output.specs.declared.marks.Mark.{Mark};
 ghost use Rattle.segment_output.specs.declared.output.Style.TheVariants.{Json};
@@ -13,9 +13,11 @@ use crate::marks::Mark;
 use crate::object_lines::print_objects;
 use crate::objects::{Said, push_object};
 use crate::stretch::{Stretch, push_short, stretch_after};
+use segment_text::counts::{AskedCounts, push_name};
 use segment_text::escapes::push_escaped;
+use segment_text::gathered::{LINES_CAPACITY, LINES_LEN, write_lines};
 use segment_text::numbers::{push_digits, push_number};
-use segment_text::size::{Tally, later, one_more};
+use segment_text::size::{later, one_more};
 use std::alloc::{AllocError, Global};
 use std::io;
 use std::io::Write;
@@ -34,7 +36,7 @@ pub enum Style {
     /// As the places where they begin and end, in bytes.
     Offsets,
     /// Not at all: they are only counted, and these numbers stand beside how many there are.
-    Counted(Numbers),
+    Counted(AskedCounts),
 }
 
 impl Style {
@@ -61,21 +63,6 @@ pub struct Part<'s> {
     /// The name of its file, where objects and offsets say it.
     pub file: Option<&'s str>,
 }
-
-/// The numbers that stand beside that of the segments, where they are counted.
-#[derive(Clone, Copy, PartialEq, Eq)]
-pub struct Numbers {
-    /// How many line feeds there are.
-    pub lines: bool,
-    /// How many bytes there are.
-    pub bytes: bool,
-}
-
-/// Lines are gathered until they have so many bytes, and then written, so that few writes reach the system.
-pub const LINES_LEN: usize = 65536;
-
-/// Room for such lines and one more, unless that is a long one.
-pub const LINES_CAPACITY: usize = 69632;
 
 /// Writes the segments of a part between each two places that come, each with the mark of what ends there, or words alone, flushes, and says
 /// how many there were. The errors are the writer's, and being out of memory, also where there are more segments, or bytes in all, than a
@@ -199,67 +186,6 @@ fn push_segment(
     if end > stretch.to {
         *stretch = stretch_after(part.bytes, end, part.style);
     }
-    Ok(())
-}
-
-/// Writes a line: how many segments there are, how many line feeds and bytes where these numbers are asked for, and the name of what they were
-/// counted in, if it has one, each after a space; and flushes. The errors are the writer's, and being out of memory.
-pub fn write_count<O: Write>(
-    alloc: Global,
-    numbers: Numbers,
-    tally: Tally,
-    name: Option<&str>,
-    out: &mut O,
-) -> io::Result<()>
-    ensures { OnOk result (Appends (O.contents out.old) (O.contents out.new) (count_line numbers tally.segments tally.size (option_map (λ name. name.now) name.entry))) }
-{
-    let mut line = Vec::new(alloc);
-    push_counts(numbers, tally, &mut line)?;
-    push_name(name, &mut line)?;
-    out.write_all(line.as_slice())?;
-    out.flush()
-}
-
-// Adds how many segments there are, and the numbers beside.
-fn push_counts(numbers: Numbers, tally: Tally, line: &mut Vec<u8>) -> Result<(), AllocError>
-    ensures { OnOk result (line.new.items ≡ line.old.items ++ counts numbers tally.segments tally.size) }
-{
-    push_digits(tally.segments, line)?;
-    push_beside(numbers.lines, tally.size.lines, line)?;
-    push_beside(numbers.bytes, tally.size.bytes, line)
-}
-
-// Adds a space and a number, if it is asked for.
-fn push_beside(is_asked: bool, number: usize, line: &mut Vec<u8>) -> Result<(), AllocError>
-    ensures { OnOk result (line.new.items ≡ line.old.items ++ beside is_asked number) }
-{
-    if !is_asked {
-        return Ok(());
-    }
-    line.extend_from_slice(b" ")?;
-    push_digits(number, line)
-}
-
-// Adds a space and a name, if there is one, and a line feed.
-fn push_name(name: Option<&str>, line: &mut Vec<u8>) -> Result<(), AllocError>
-    ensures { OnOk result (line.new.items ≡ line.old.items ++ line_end (option_map (λ name. name.now) name.entry)) }
-{
-    if let Some(name) = name {
-        line.extend_from_slice(b" ")?;
-        line.extend_from_slice(name.as_bytes())?;
-    }
-    line.extend_from_slice(b"\n")
-}
-
-/// Writes the lines that were gathered, and empties their vector. The errors are the writer's.
-// Apart, since an `io::Result` is wide.
-#[cold]
-#[inline(never)]
-pub fn write_lines<O: Write>(lines: &mut Vec<u8>, out: &mut O) -> io::Result<()>
-    ensures { OnOk result ((lines.new.items ≡ []) × Appends (O.contents out.old) (O.contents out.new) lines.old.items) }
-{
-    out.write_all(lines.as_slice())?;
-    lines.clear();
     Ok(())
 }
 

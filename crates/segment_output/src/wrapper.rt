@@ -19,13 +19,13 @@ pub mod limited;
 mod paragraphs;
 
 use crate::machine_lines::MachineLines;
-use crate::output::{LINES_CAPACITY, LINES_LEN, write_lines};
 use icu_segmenter::hyphens::HyphenationPatterns;
 use icu_segmenter::options::{LineBreakOptions, LineBreakStrictness};
 use icu_segmenter::provider::{DataError, Dictionaries};
 use icu_segmenter::wrap::{Room, WrapUtf8Iterator};
 use icu_segmenter::{GraphemeClusterSegmenter, GraphemeClusterSegmenterBorrowed};
 use icu_segmenter_data::grapheme_segmenter;
+use segment_text::gathered::{LINES_CAPACITY, LINES_LEN, write_lines};
 use segment_text::trimmed::{push_line, without_trailing_space};
 use std::alloc::{AllocError, Global};
 use std::io;

@@ -1,5 +1,6 @@
 pub mod Bare
 pub mod Blocks
+pub mod Counts
 pub mod Escapes
 pub mod Fault
 pub mod Joined

@@ -7,10 +7,10 @@ ghost use Rattle.icu_segmenter.specs.Wrapping.{TextLine};
 ghost use Rattle.segment_output.specs.Wrapped.{shown_line};
 ghost use Rattle.segment_output.specs.Wrapper.{wrapping_of};
 
-use crate::output::{LINES_CAPACITY, LINES_LEN, write_lines};
 use crate::wrapper::Wrapper;
 use icu_segmenter::indices::Utf8CharIndices;
 use icu_segmenter::wrap::{Fit, ParagraphStyle, Paragraphs, Span};
+use segment_text::gathered::{LINES_CAPACITY, LINES_LEN, write_lines};
 use std::alloc::{AllocError, Global};
 use std::io;
 use std::io::Write;

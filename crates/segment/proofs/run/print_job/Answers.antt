@@ -8,7 +8,7 @@ use Rattle.segment.proofs.run.print_job.Goals as goal
 pub returns-then-has_parts-clause-written : goal.returns-then-has_parts-clause-written
 returns-then-has_parts-clause-written g c =
     let file = option_map (λ name. name.now) c.args.file in
-    let is : IsPrintingOf c.args.job.now.work file c.match-job.printing = elim c.match-job.branch [
+    let is : IsPrintingOf c.args.job.now.action file c.match-job.printing = elim c.match-job.branch [
       | in-Cut w ↦ rw (w.printing-is, w.in-Cut.is) (refl, refl, refl)
       | in-Wrap w ↦ rw (w.printing-is, w.in-Wrap.is) refl
     ] in
@@ -17,7 +17,7 @@ returns-then-has_parts-clause-written g c =
 pub returns-then-has_parts-clause-begun : goal.returns-then-has_parts-clause-begun
 returns-then-has_parts-clause-begun g c =
     let file = option_map (λ name. name.now) c.args.file in
-    let is : IsPrintingOf c.args.job.now.work file c.match-job.printing = elim c.match-job.branch [
+    let is : IsPrintingOf c.args.job.now.action file c.match-job.printing = elim c.match-job.branch [
       | in-Cut w ↦ rw (w.printing-is, w.in-Cut.is) (refl, refl, refl)
       | in-Wrap w ↦ rw (w.printing-is, w.in-Wrap.is) refl
     ] in
@@ -26,7 +26,7 @@ returns-then-has_parts-clause-begun g c =
 pub returns-clause-written : goal.returns-clause-written
 returns-clause-written g c =
     let file = option_map (λ name. name.now) c.args.file in
-    let is : IsPrintingOf c.args.job.now.work file c.match-job.printing = elim c.match-job.branch [
+    let is : IsPrintingOf c.args.job.now.action file c.match-job.printing = elim c.match-job.branch [
       | in-Cut w ↦ rw (w.printing-is, w.in-Cut.is) (refl, refl, refl)
       | in-Wrap w ↦ rw (w.printing-is, w.in-Wrap.is) refl
     ] in

@@ -1,9 +1,32 @@
 //! The arguments of the command line: each kind of segments is a subcommand, and what it takes stands in lists.
+#![tactic(auto)]
 
-use crate::command::Columns;
 use clap::builder::ValueParser;
 use clap::{Arg, ArgAction, Command, value_parser};
 use std::alloc::{AllocError, Global};
+
+/// Where the command line says to how many columns lines are wrapped.
+#[derive(Clone, Copy, PartialEq, Eq)]
+pub enum Columns {
+    /// Before the files, if anywhere.
+    InPlace,
+    /// In an option, if anywhere.
+    InOption,
+}
+
+/// Where the words of a command line say it.
+pub fn columns_by(words: &[String]) -> Columns {
+    for word in words.iter() {
+        let word = word.as_str();
+        if word == "--" {
+            return Columns::InPlace;
+        }
+        if word == "--width" || word.starts_with("--width=") {
+            return Columns::InOption;
+        }
+    }
+    Columns::InPlace
+}
 
 // What follows the name of an argument.
 #[derive(Clone, Copy)]
