@@ -11,7 +11,7 @@ use icu_segmenter::{
 use std::alloc::{AllocError, Global};
 
 /// A segmenter with data that it owns.
-pub enum Segmenter {
+pub enum AnySegmenter {
     /// Of grapheme clusters.
     Clusters(GraphemeClusterSegmenter),
     /// Of sentences.
@@ -23,34 +23,36 @@ pub enum Segmenter {
 }
 
 // Written out, so that it is proved here and not in each function that drops one.
-impl Drop for Segmenter {
+impl Drop for AnySegmenter {
     fn drop(self) {
         match self {
-            Segmenter::Clusters(_) => {}
-            Segmenter::Sentences(_) => {}
-            Segmenter::Words(_) => {}
-            Segmenter::Lines(_) => {}
+            AnySegmenter::Clusters(_) => {}
+            AnySegmenter::Sentences(_) => {}
+            AnySegmenter::Words(_) => {}
+            AnySegmenter::Lines(_) => {}
         }
     }
 }
 
-impl Segmenter {
+impl AnySegmenter {
     /// This segmenter over borrowed data.
-    pub fn as_borrowed(&self) -> SegmenterBorrowed<'_> {
+    pub fn as_borrowed(&self) -> AnySegmenterBorrowed<'_> {
         match self {
-            Segmenter::Clusters(clusters) => SegmenterBorrowed::Clusters(clusters.as_borrowed()),
-            Segmenter::Sentences(sentences) => {
-                SegmenterBorrowed::Sentences(sentences.as_borrowed())
+            AnySegmenter::Clusters(clusters) => AnySegmenterBorrowed::Clusters(
+                clusters.as_borrowed(),
+            ),
+            AnySegmenter::Sentences(sentences) => {
+                AnySegmenterBorrowed::Sentences(sentences.as_borrowed())
             }
-            Segmenter::Words(words) => SegmenterBorrowed::Words(words.as_borrowed()),
-            Segmenter::Lines(lines) => SegmenterBorrowed::Lines(lines.as_borrowed()),
+            AnySegmenter::Words(words) => AnySegmenterBorrowed::Words(words.as_borrowed()),
+            AnySegmenter::Lines(lines) => AnySegmenterBorrowed::Lines(lines.as_borrowed()),
         }
     }
 }
 
 /// A segmenter over borrowed data.
 #[derive(Clone, Copy)]
-pub enum SegmenterBorrowed<'data> {
+pub enum AnySegmenterBorrowed<'data> {
     /// Of grapheme clusters.
     Clusters(GraphemeClusterSegmenterBorrowed<'data>),
     /// Of sentences.
@@ -74,7 +76,7 @@ pub enum Text<'s> {
     Utf16(&'s [u16]),
 }
 
-impl<'data> SegmenterBorrowed<'data> {
+impl<'data> AnySegmenterBorrowed<'data> {
     /// The boundaries of a text: of words in UTF-8 and UTF-16 by the iterator that gives their types. Fails only when out of memory.
     pub fn boundaries(self, alloc: Global, text: Text<'_>) -> Result<Found, AllocError> {
         match text {
@@ -93,13 +95,13 @@ impl<'data> SegmenterBorrowed<'data> {
         is_typed: bool,
     ) -> Result<Found, AllocError> {
         match self {
-            SegmenterBorrowed::Clusters(clusters) => found(alloc, clusters.segment(text)),
-            SegmenterBorrowed::Sentences(sentences) => found(alloc, sentences.segment(text)),
-            SegmenterBorrowed::Words(words) if is_typed => {
+            AnySegmenterBorrowed::Clusters(clusters) => found(alloc, clusters.segment(text)),
+            AnySegmenterBorrowed::Sentences(sentences) => found(alloc, sentences.segment(text)),
+            AnySegmenterBorrowed::Words(words) if is_typed => {
                 found_words(alloc, words.segment(text).iter_with_word_type())
             }
-            SegmenterBorrowed::Words(words) => found(alloc, words.segment(text)),
-            SegmenterBorrowed::Lines(lines) => found(alloc, lines.segment(text)),
+            AnySegmenterBorrowed::Words(words) => found(alloc, words.segment(text)),
+            AnySegmenterBorrowed::Lines(lines) => found(alloc, lines.segment(text)),
         }
     }
 }

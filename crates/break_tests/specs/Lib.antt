@@ -1,1 +1,1 @@
-pub mod Segmenter
+pub mod TestedSegmenter

@@ -1,15 +1,15 @@
 //! Pair tables beside machines, on every text of up to three characters out of some.
 
 use crate::engine::Engine;
-use crate::segmenter::Segmenter;
+use crate::segmenter::TestedSegmenter;
 use anyhow::{Context, Result};
 use std::alloc::{AllocError, Global};
 
 /// What is compared, and the characters of texts.
 #[derive(Clone, Copy)]
 struct Comparison<'a> {
-    table: &'a Segmenter,
-    machine: &'a Segmenter,
+    table: &'a TestedSegmenter,
+    machine: &'a TestedSegmenter,
     characters: &'a [char],
 }
 

@@ -1,10 +1,10 @@
 //! How many samples are passed.
 ghost use Rattle.std.specs.Prelude.{◌↔◌, IfOk, IsTrue};
-ghost use Rattle.break_tests.specs.Segmenter.{HasMandatory, IsPassed};
+ghost use Rattle.break_tests.specs.TestedSegmenter.{HasMandatory, IsPassed};
 
 use crate::options::segmenter_with;
 use crate::sample::{Sample, sample_of};
-use crate::segmenter::Segmenter;
+use crate::segmenter::TestedSegmenter;
 use anyhow::Result;
 use std::alloc::{AllocError, Global};
 
@@ -36,7 +36,7 @@ impl Counts {
 
 /// Counts the samples of a test file, and prints the lines of those that aren't passed. The errors are out of memory, a line that has
 /// neither marks nor code points, and output that fails.
-pub fn counts_of(rt: &HostRuntime, segmenter: &Segmenter, text: &str) -> Result<Counts> {
+pub fn counts_of(rt: &HostRuntime, segmenter: &TestedSegmenter, text: &str) -> Result<Counts> {
     let mut counts = Counts::default();
     for line in text.lines() {
         if let Some(is_passed) = is_line_passed(rt.alloc(), segmenter, line)? {
@@ -56,7 +56,7 @@ fn count(rt: &HostRuntime, counts: &mut Counts, line: &str, is_passed: bool) -> 
 }
 
 // Whether the sample of a line is passed; none where it has no sample.
-fn is_line_passed(alloc: Global, segmenter: &Segmenter, line: &str) -> Result<Option<bool>> {
+fn is_line_passed(alloc: Global, segmenter: &TestedSegmenter, line: &str) -> Result<Option<bool>> {
     match sample_of(alloc, line)? {
         Some(sample) => Ok(Some(is_passed(alloc, segmenter, &sample)?)),
         None => Ok(None),
@@ -88,7 +88,11 @@ fn counts_with(rt: &HostRuntime, options: &str, samples: &str) -> Result<Counts>
 }
 
 // Whether the text has just the sample's boundaries, in each encoding, and of lines the mandatory ones.
-fn is_passed(alloc: Global, segmenter: &Segmenter, sample: &Sample) -> Result<bool, AllocError>
+fn is_passed(
+    alloc: Global,
+    segmenter: &TestedSegmenter,
+    sample: &Sample,
+) -> Result<bool, AllocError>
     ensures { IfOk result (λ passed. IsTrue passed ↔ IsPassed segmenter.now sample.now) }
 {
     let text = sample.text.as_str();
@@ -105,7 +109,11 @@ fn is_passed(alloc: Global, segmenter: &Segmenter, sample: &Sample) -> Result<bo
 }
 
 // Whether the lines of the text have just the sample's mandatory boundaries; true of what isn't lines.
-fn has_mandatory(alloc: Global, segmenter: &Segmenter, sample: &Sample) -> Result<bool, AllocError>
+fn has_mandatory(
+    alloc: Global,
+    segmenter: &TestedSegmenter,
+    sample: &Sample,
+) -> Result<bool, AllocError>
     ensures { IfOk result (λ has. IsTrue has ↔ HasMandatory segmenter.now sample.now) }
 {
     match segmenter.mandatory_places(alloc, sample.text.as_str())? {

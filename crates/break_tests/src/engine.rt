@@ -1,6 +1,6 @@
 //! The engines that have real data.
 
-use crate::segmenter::Segmenter;
+use crate::segmenter::TestedSegmenter;
 use anyhow::Result;
 use icu_segmenter::WordSegmenter;
 use icu_segmenter::options::{LineBreakOptions, WordBreakOptions};
@@ -100,21 +100,25 @@ impl Engine {
     }
 
     /// The segmenter with its data. The errors are out of memory, and data that are rejected.
-    pub fn segmenter(self, alloc: Global) -> Result<Segmenter> {
+    pub fn segmenter(self, alloc: Global) -> Result<TestedSegmenter> {
         let options = LineBreakOptions::default();
         Ok(match self {
-            Engine::ClusterTable => Segmenter::Clusters(classic::grapheme_segmenter(alloc)?),
-            Engine::WordTable => Segmenter::Words(classic::word_segmenter(alloc)?),
-            Engine::SentenceTable => Segmenter::Sentences(classic::sentence_segmenter(alloc)?),
-            Engine::LineTable => Segmenter::LinesByTable(classic::line_segmenter(alloc, options)?),
+            Engine::ClusterTable => TestedSegmenter::Clusters(classic::grapheme_segmenter(alloc)?),
+            Engine::WordTable => TestedSegmenter::Words(classic::word_segmenter(alloc)?),
+            Engine::SentenceTable => TestedSegmenter::Sentences(classic::sentence_segmenter(
+                alloc,
+            )?),
+            Engine::LineTable => TestedSegmenter::LinesByTable(classic::line_segmenter(
+                alloc, options,
+            )?),
             Engine::LineTurns => {
-                Segmenter::LinesByTable(classic::line_17_segmenter(alloc, options)?)
+                TestedSegmenter::LinesByTable(classic::line_17_segmenter(alloc, options)?)
             }
-            Engine::ProvedClusters => Segmenter::Clusters(grapheme_segmenter(alloc)?),
-            Engine::ProvedWords => Segmenter::Words(plain_word_segmenter(alloc)?),
-            Engine::TypedWords => Segmenter::Words(word_segmenter(alloc)?),
-            Engine::ProvedSentences => Segmenter::Sentences(sentence_segmenter(alloc)?),
-            Engine::ProvedLines => Segmenter::Lines(line_segmenter(alloc, options)?),
+            Engine::ProvedClusters => TestedSegmenter::Clusters(grapheme_segmenter(alloc)?),
+            Engine::ProvedWords => TestedSegmenter::Words(plain_word_segmenter(alloc)?),
+            Engine::TypedWords => TestedSegmenter::Words(word_segmenter(alloc)?),
+            Engine::ProvedSentences => TestedSegmenter::Sentences(sentence_segmenter(alloc)?),
+            Engine::ProvedLines => TestedSegmenter::Lines(line_segmenter(alloc, options)?),
         })
     }
 }

@@ -1,6 +1,6 @@
 //! Lines with options.
 
-use crate::segmenter::Segmenter;
+use crate::segmenter::TestedSegmenter;
 use anyhow::{Context, Result, bail};
 use icu_segmenter::options::{
     LanguageIdentifier, LineBreakOptions, LineBreakStrictness, LineBreakWordOption,
@@ -10,7 +10,7 @@ use std::alloc::Global;
 
 /// The segmenter of lines with the options of a row: the words of a strictness, a word option and a language. The errors are
 /// out of memory, and words that name nothing.
-pub fn segmenter_with(alloc: Global, options: &str) -> Result<Segmenter> {
+pub fn segmenter_with(alloc: Global, options: &str) -> Result<TestedSegmenter> {
     let mut words = options.split_whitespace();
     let strictness = strictness_of(words.next().context("no strictness")?)?;
     let word_option = word_option_of(words.next().context("no word option")?)?;
@@ -20,7 +20,7 @@ pub fn segmenter_with(alloc: Global, options: &str) -> Result<Segmenter> {
         word_option: Some(word_option),
         content_locale: language.as_ref(),
     };
-    Ok(Segmenter::Lines(line_segmenter(alloc, options)?))
+    Ok(TestedSegmenter::Lines(line_segmenter(alloc, options)?))
 }
 
 fn strictness_of(word: &str) -> Result<LineBreakStrictness> {

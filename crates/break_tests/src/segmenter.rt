@@ -2,7 +2,7 @@
 ghost use Rattle.std.specs.Prelude.{◌≡◌, IfOk};
 ghost use Rattle.icu_segmenter.specs.Lines.{line_rules};
 ghost use Rattle.icu_segmenter.specs.Decoding.{utf8};
-ghost use Rattle.break_tests.specs.Segmenter.{mandatory_by};
+ghost use Rattle.break_tests.specs.TestedSegmenter.{mandatory_by};
 
 use icu_segmenter::{
     GraphemeClusterSegmenter, LineSegmenter, LineSegmenterBorrowed, SentenceSegmenter,
@@ -11,7 +11,7 @@ use icu_segmenter::{
 use std::alloc::{AllocError, Global};
 
 /// A segmenter with data of its own.
-pub enum Segmenter {
+pub enum TestedSegmenter {
     /// Of grapheme clusters.
     Clusters(GraphemeClusterSegmenter),
     /// Of words.
@@ -25,36 +25,36 @@ pub enum Segmenter {
 }
 
 // Written out, so that it is proved here and not in each function that drops one.
-impl Drop for Segmenter {
+impl Drop for TestedSegmenter {
     fn drop(self) {
         match self {
-            Segmenter::Clusters(_) => {}
-            Segmenter::Words(_) => {}
-            Segmenter::Sentences(_) => {}
-            Segmenter::Lines(_) => {}
-            Segmenter::LinesByTable(_) => {}
+            TestedSegmenter::Clusters(_) => {}
+            TestedSegmenter::Words(_) => {}
+            TestedSegmenter::Sentences(_) => {}
+            TestedSegmenter::Lines(_) => {}
+            TestedSegmenter::LinesByTable(_) => {}
         }
     }
 }
 
-impl Segmenter {
+impl TestedSegmenter {
     ghost use Rattle.std.specs.Option.{option_map};
     ghost use Rattle.icu_segmenter.specs.Decoding.{utf8, utf16};
-    ghost use Rattle.break_tests.specs.Segmenter.{places_by, mandatory_places_by};
+    ghost use Rattle.break_tests.specs.TestedSegmenter.{places_by, mandatory_places_by};
 
     /// The boundaries of a text, in bytes. Fails only when out of memory.
     pub fn places_in_str(&self, alloc: Global, text: &str) -> Result<Vec<usize>, AllocError>
         ensures { IfOk result (λ found. found.items ≡ places_by self.now (utf8 text.now)) }
     {
         match self {
-            Segmenter::Clusters(clusters) => {
+            TestedSegmenter::Clusters(clusters) => {
                 clusters.as_borrowed().segment_str(text).collect(alloc)
             }
-            Segmenter::Words(words) => words.as_borrowed().segment_str(text).collect(alloc),
-            Segmenter::Sentences(sentences) => {
+            TestedSegmenter::Words(words) => words.as_borrowed().segment_str(text).collect(alloc),
+            TestedSegmenter::Sentences(sentences) => {
                 sentences.as_borrowed().segment_str(text).collect(alloc)
             }
-            Segmenter::Lines(lines) | Segmenter::LinesByTable(lines) => {
+            TestedSegmenter::Lines(lines) | TestedSegmenter::LinesByTable(lines) => {
                 lines.as_borrowed().segment_str(text).collect(alloc)
             }
         }
@@ -65,14 +65,14 @@ impl Segmenter {
         ensures { IfOk result (λ found. found.items ≡ places_by self.now (utf8 text.now)) }
     {
         match self {
-            Segmenter::Clusters(clusters) => {
+            TestedSegmenter::Clusters(clusters) => {
                 clusters.as_borrowed().segment_utf8(text).collect(alloc)
             }
-            Segmenter::Words(words) => words.as_borrowed().segment_utf8(text).collect(alloc),
-            Segmenter::Sentences(sentences) => {
+            TestedSegmenter::Words(words) => words.as_borrowed().segment_utf8(text).collect(alloc),
+            TestedSegmenter::Sentences(sentences) => {
                 sentences.as_borrowed().segment_utf8(text).collect(alloc)
             }
-            Segmenter::Lines(lines) | Segmenter::LinesByTable(lines) => {
+            TestedSegmenter::Lines(lines) | TestedSegmenter::LinesByTable(lines) => {
                 lines.as_borrowed().segment_utf8(text).collect(alloc)
             }
         }
@@ -83,14 +83,14 @@ impl Segmenter {
         ensures { IfOk result (λ found. found.items ≡ places_by self.now (utf16 text.now)) }
     {
         match self {
-            Segmenter::Clusters(clusters) => {
+            TestedSegmenter::Clusters(clusters) => {
                 clusters.as_borrowed().segment_utf16(text).collect(alloc)
             }
-            Segmenter::Words(words) => words.as_borrowed().segment_utf16(text).collect(alloc),
-            Segmenter::Sentences(sentences) => {
+            TestedSegmenter::Words(words) => words.as_borrowed().segment_utf16(text).collect(alloc),
+            TestedSegmenter::Sentences(sentences) => {
                 sentences.as_borrowed().segment_utf16(text).collect(alloc)
             }
-            Segmenter::Lines(lines) | Segmenter::LinesByTable(lines) => {
+            TestedSegmenter::Lines(lines) | TestedSegmenter::LinesByTable(lines) => {
                 lines.as_borrowed().segment_utf16(text).collect(alloc)
             }
         }
@@ -105,7 +105,7 @@ impl Segmenter {
         ensures { IfOk result (λ found. option_map (λ places. places.items) found ≡ mandatory_places_by self.now (utf8 text.now)) }
     {
         match self {
-            Segmenter::Lines(lines) => {
+            TestedSegmenter::Lines(lines) => {
                 let places = mandatory_breaks(alloc, lines.as_borrowed(), text)?;
                 Ok(Some(places))
             }

@@ -4,9 +4,9 @@ use crate::dice::Dice;
 use crate::failure::{Failure, both, check};
 use crate::machines::{dictionaries, dictionary, machine, tailoring, tailorings};
 use crate::samples::random_text;
-use crate::tables::{Numbers, cluster_table, overriding};
+use crate::tables::{TableNumbers, cluster_table, overriding};
 use crate::trial::{examine, examine_owned};
-use bench::segmenter::{Segmenter, SegmenterBorrowed};
+use bench::segmenter::{AnySegmenter, AnySegmenterBorrowed};
 use icu_segmenter::complex::{ComplexIterator, ComplexPayloadBorrowed};
 use icu_segmenter::options::{
     LanguageIdentifier, LineBreakOptions, LineBreakStrictness, LineBreakWordOption,
@@ -87,20 +87,20 @@ fn clusters_by_machine(alloc: Global, dice: &mut Dice) -> Result<bool, Failure> 
     let machine = machine(alloc, dice)?;
     if dice.comes(128) {
         let clusters = GraphemeClusterSegmenter::try_new_neo(machine);
-        return examine_owned(alloc, dice, clusters.map(Segmenter::Clusters));
+        return examine_owned(alloc, dice, clusters.map(AnySegmenter::Clusters));
     }
     let clusters = GraphemeClusterSegmenterBorrowed::new_neo(&machine);
-    examine(alloc, dice, clusters.map(SegmenterBorrowed::Clusters))
+    examine(alloc, dice, clusters.map(AnySegmenterBorrowed::Clusters))
 }
 
 fn clusters_by_table(alloc: Global, dice: &mut Dice) -> Result<bool, Failure> {
     let table = cluster_table(alloc, dice)?;
     if dice.comes(128) {
         let clusters = GraphemeClusterSegmenter::try_new(table);
-        return examine_owned(alloc, dice, clusters.map(Segmenter::Clusters));
+        return examine_owned(alloc, dice, clusters.map(AnySegmenter::Clusters));
     }
     let clusters = GraphemeClusterSegmenterBorrowed::new(&table);
-    examine(alloc, dice, clusters.map(SegmenterBorrowed::Clusters))
+    examine(alloc, dice, clusters.map(AnySegmenterBorrowed::Clusters))
 }
 
 fn sentences_by_machine(alloc: Global, dice: &mut Dice) -> Result<bool, Failure> {
@@ -109,11 +109,11 @@ fn sentences_by_machine(alloc: Global, dice: &mut Dice) -> Result<bool, Failure>
     if dice.comes(128) {
         let options = SentenceBreakOptions::default();
         let sentences = SentenceSegmenter::try_new_neo(machine, tailoring, options);
-        return examine_owned(alloc, dice, sentences.map(Segmenter::Sentences));
+        return examine_owned(alloc, dice, sentences.map(AnySegmenter::Sentences));
     }
     let options = SentenceBreakInvariantOptions::default();
     let sentences = SentenceSegmenterBorrowed::new_neo(&machine, tailoring.as_ref(), options);
-    examine(alloc, dice, sentences.map(SegmenterBorrowed::Sentences))
+    examine(alloc, dice, sentences.map(AnySegmenterBorrowed::Sentences))
 }
 
 fn sentences_by_table(alloc: Global, dice: &mut Dice) -> Result<bool, Failure> {
@@ -122,11 +122,11 @@ fn sentences_by_table(alloc: Global, dice: &mut Dice) -> Result<bool, Failure> {
     if dice.comes(128) {
         let options = SentenceBreakOptions::default();
         let sentences = SentenceSegmenter::try_new(table, overriding, options);
-        return examine_owned(alloc, dice, sentences.map(Segmenter::Sentences));
+        return examine_owned(alloc, dice, sentences.map(AnySegmenter::Sentences));
     }
     let options = SentenceBreakInvariantOptions::default();
     let sentences = SentenceSegmenterBorrowed::new(&table, overriding.as_ref(), options);
-    examine(alloc, dice, sentences.map(SegmenterBorrowed::Sentences))
+    examine(alloc, dice, sentences.map(AnySegmenterBorrowed::Sentences))
 }
 
 fn words_by_machine(alloc: Global, dice: &mut Dice) -> Result<bool, Failure> {
@@ -153,7 +153,7 @@ struct WordTables {
 }
 
 fn word_tables(alloc: Global, dice: &mut Dice) -> Result<WordTables, Failure> {
-    let table = Numbers::few(dice, true).table(alloc, dice);
+    let table = TableNumbers::few(dice, true).table(alloc, dice);
     let tables = both(table, overriding(alloc, dice));
     let ((table, overriding), clusters) = both(tables, cluster_table(alloc, dice))?;
     Ok(WordTables {
@@ -232,7 +232,7 @@ fn examine_words(
     let mut segmenter = made?;
     let words = dictionaries(alloc, dice)?;
     segmenter.load_dictionary(words.as_borrowed());
-    examine(alloc, dice, Ok(SegmenterBorrowed::Words(segmenter)))
+    examine(alloc, dice, Ok(AnySegmenterBorrowed::Words(segmenter)))
 }
 
 fn examine_given_words(
@@ -242,7 +242,7 @@ fn examine_given_words(
 ) -> Result<bool, Failure> {
     let mut segmenter = made?;
     segmenter.load_dictionary(dictionaries(alloc, dice)?);
-    examine_owned(alloc, dice, Ok(Segmenter::Words(segmenter)))
+    examine_owned(alloc, dice, Ok(AnySegmenter::Words(segmenter)))
 }
 
 // Options of lines. What names no language means none.
@@ -353,7 +353,7 @@ fn line_tables(
     count: u8,
     complex: u8,
 ) -> Result<LineTables, Failure> {
-    let table = Numbers::of_lines(dice, count, complex).table(alloc, dice);
+    let table = TableNumbers::of_lines(dice, count, complex).table(alloc, dice);
     let (table, clusters) = both(table, cluster_table(alloc, dice))?;
     Ok(LineTables { table, clusters })
 }
@@ -445,7 +445,7 @@ fn examine_lines(
     let mut segmenter = made?;
     let words = dictionaries(alloc, dice)?;
     segmenter.load_dictionary(words.as_borrowed());
-    examine(alloc, dice, Ok(SegmenterBorrowed::Lines(segmenter)))
+    examine(alloc, dice, Ok(AnySegmenterBorrowed::Lines(segmenter)))
 }
 
 fn examine_given_lines(
@@ -455,7 +455,7 @@ fn examine_given_lines(
 ) -> Result<bool, Failure> {
     let mut segmenter = made?;
     segmenter.load_dictionary(dictionaries(alloc, dice)?);
-    examine_owned(alloc, dice, Ok(Segmenter::Lines(segmenter)))
+    examine_owned(alloc, dice, Ok(AnySegmenter::Lines(segmenter)))
 }
 
 // The cuts of a text as one piece are to rise strictly to its end.

@@ -9,7 +9,7 @@ use seg_rules::check::check;
 
 /// The numbers of a certificate.
 #[derive(Clone, Copy)]
-pub struct Numbers {
+pub struct CertificateNumbers {
     /// How many there are of what stands before places, of what is owed, of states, of rows above and below that of marks, of symbols,
     /// and of symbols with the end.
     pub lengths: [u8; 7],
@@ -47,7 +47,7 @@ macro_rules! configurations {
 }
 
 /// The numbers of the small machine's certificate.
-pub const NUMBERS: Numbers = Numbers {
+pub const NUMBERS: CertificateNumbers = CertificateNumbers {
     lengths: [5, 4, 8, 1, 4, 5, 6],
     rests: [
         1, 1, 1, 11, 1, //
@@ -139,7 +139,7 @@ fn part<T>(list: &[T], from: u8, to: u8) -> &[T] {
     list.get(usize::from(from)..usize::from(to)).unwrap_or(&[])
 }
 
-impl Numbers {
+impl CertificateNumbers {
     /// Whether the machine finds the places of the small rules, by the certificate of these numbers.
     pub fn passes(&self, machine: &SegmenterStateMachine) -> bool {
         let befores = [

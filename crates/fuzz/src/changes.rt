@@ -1,6 +1,6 @@
 //! Certificates and machines of which one entry is changed, and what the check says of them.
 
-use crate::certificate::{NUMBERS, Numbers};
+use crate::certificate::{CertificateNumbers, NUMBERS};
 use crate::dice::Dice;
 use crate::failure::{Failure, check};
 use crate::small::{Accepted, CHARACTERS, STATES, TRANSITIONS, machine};
@@ -222,7 +222,7 @@ fn changed_transitions(dice: &mut Dice, place: u8) -> [State; 54] {
     transitions
 }
 
-fn changed_numbers(dice: &mut Dice, place: u8, part: usize) -> Numbers {
+fn changed_numbers(dice: &mut Dice, place: u8, part: usize) -> CertificateNumbers {
     let mut numbers = NUMBERS;
     match part {
         0 => change_length(dice, place, &mut numbers.lengths),

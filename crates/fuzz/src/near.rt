@@ -5,7 +5,7 @@ ghost use Rattle.seg_text.specs.Boundaries.{boundaries_in, IsCover};
 
 use crate::failure::{Failure, check};
 use bench::found::Found;
-use bench::segmenter::SegmenterBorrowed;
+use bench::segmenter::AnySegmenterBorrowed;
 use icu_segmenter::WordSegmenterBorrowed;
 use icu_segmenter::cursor::{BoundaryCursor, CursorText, SegmenterOf};
 use icu_segmenter::indices::StrCharIndices;
@@ -13,7 +13,7 @@ use icu_segmenter::segments::{BreakIterator, MarkedSegments, Source, WordBreaks,
 
 /// A cursor over a text is to find the boundaries next to a place.
 pub fn check_near(
-    segmenter: SegmenterBorrowed<'_>,
+    segmenter: AnySegmenterBorrowed<'_>,
     text: &str,
     place: usize,
     found: &Found,
@@ -27,16 +27,16 @@ pub fn check_near(
 
 // Whether a cursor over units finds these boundaries next to a place. The proof is short for all encodings, and long for one.
 fn agrees_in<T: CursorText>(
-    segmenter: SegmenterBorrowed<'_>,
+    segmenter: AnySegmenterBorrowed<'_>,
     text: T,
     place: usize,
     near: Near,
 ) -> bool {
     match segmenter {
-        SegmenterBorrowed::Clusters(clusters) => agrees(clusters, text, place, near),
-        SegmenterBorrowed::Sentences(sentences) => agrees(sentences, text, place, near),
-        SegmenterBorrowed::Words(words) => agrees(words, text, place, near),
-        SegmenterBorrowed::Lines(lines) => agrees(lines, text, place, near),
+        AnySegmenterBorrowed::Clusters(clusters) => agrees(clusters, text, place, near),
+        AnySegmenterBorrowed::Sentences(sentences) => agrees(sentences, text, place, near),
+        AnySegmenterBorrowed::Words(words) => agrees(words, text, place, near),
+        AnySegmenterBorrowed::Lines(lines) => agrees(lines, text, place, near),
     }
 }
 
@@ -81,9 +81,9 @@ fn neighbours(found: &[(usize, char)], place: usize) -> Near {
 }
 
 /// Words are to be those segments that have a type.
-pub fn check_words(segmenter: SegmenterBorrowed<'_>, text: &str) -> Result<(), Failure> {
+pub fn check_words(segmenter: AnySegmenterBorrowed<'_>, text: &str) -> Result<(), Failure> {
     match segmenter {
-        SegmenterBorrowed::Words(words) => check_same_words::<StrCharIndices<'_>>(words, text),
+        AnySegmenterBorrowed::Words(words) => check_same_words::<StrCharIndices<'_>>(words, text),
         _ => Ok(()),
     }
 }

@@ -4,7 +4,7 @@ ghost use Rattle.std.specs.Prelude.{◌≡◌, length};
 ghost use Rattle.seg_text.specs.Boundaries.{boundaries_in, IsCover};
 
 use crate::failure::{Failure, check};
-use bench::segmenter::{SegmenterBorrowed, Text};
+use bench::segmenter::{AnySegmenterBorrowed, Text};
 use icu_segmenter::cursor::SegmenterOf;
 use icu_segmenter::indices::{Latin1Indices, StrCharIndices, Utf8CharIndices, Utf16Indices};
 use icu_segmenter::segments::{BreakIterator, Source, Units};
@@ -136,7 +136,7 @@ where
 /// The segments of a text are to be its parts, as each iterator of segments gives them, by number.
 pub fn check_segments(
     manner: u8,
-    segmenter: SegmenterBorrowed<'_>,
+    segmenter: AnySegmenterBorrowed<'_>,
     text: Text<'_>,
 ) -> Result<(), Failure> {
     let has_parts = match text {
@@ -148,15 +148,15 @@ pub fn check_segments(
     check(has_parts, "segments that aren't the text")
 }
 
-fn has_parts_by<I: Source>(manner: u8, segmenter: SegmenterBorrowed<'_>, text: I::Units) -> bool
+fn has_parts_by<I: Source>(manner: u8, segmenter: AnySegmenterBorrowed<'_>, text: I::Units) -> bool
 where
     I::Units: Whole,
 {
     match segmenter {
-        SegmenterBorrowed::Clusters(clusters) => has_clusters::<I>(manner, clusters, text),
-        SegmenterBorrowed::Sentences(sentences) => has_sentences::<I>(manner, sentences, text),
-        SegmenterBorrowed::Words(words) => has_words::<I>(manner, words, text),
-        SegmenterBorrowed::Lines(lines) => has_lines::<I>(manner, lines, text),
+        AnySegmenterBorrowed::Clusters(clusters) => has_clusters::<I>(manner, clusters, text),
+        AnySegmenterBorrowed::Sentences(sentences) => has_sentences::<I>(manner, sentences, text),
+        AnySegmenterBorrowed::Words(words) => has_words::<I>(manner, words, text),
+        AnySegmenterBorrowed::Lines(lines) => has_lines::<I>(manner, lines, text),
     }
 }
 
@@ -199,12 +199,12 @@ where
 
 /// Wrapped lines are to be the text, where lines are by a machine.
 pub fn check_wrapped(
-    segmenter: SegmenterBorrowed<'_>,
+    segmenter: AnySegmenterBorrowed<'_>,
     text: Text<'_>,
     columns: usize,
 ) -> Result<(), Failure> {
     let has_lines = match segmenter {
-        SegmenterBorrowed::Lines(lines) => has_wrapped(lines, text, columns),
+        AnySegmenterBorrowed::Lines(lines) => has_wrapped(lines, text, columns),
         _ => true,
     };
     check(has_lines, "wrapped lines that aren't the text")

@@ -2,7 +2,7 @@
 
 use crate::failure::{Failure, check};
 use bench::found::Found;
-use bench::segmenter::{SegmenterBorrowed, Text};
+use bench::segmenter::{AnySegmenterBorrowed, Text};
 use icu_segmenter::GraphemeClusterSegmenterBorrowed;
 use icu_segmenter::provider::{
     Acceptance, ClassTable, Lookahead, SegmenterStateMachine, State, Symbol,
@@ -99,7 +99,7 @@ fn all_characters(alloc: Global) -> Result<String, AllocError> {
 fn boundaries(alloc: Global, symbols: ClassTable, text: &str) -> Result<Found, Failure> {
     let machine = machine(alloc, symbols)?;
     let runs = GraphemeClusterSegmenterBorrowed::new_neo(&machine)?;
-    Ok(SegmenterBorrowed::Clusters(runs).boundaries(alloc, Text::Str(text))?)
+    Ok(AnySegmenterBorrowed::Clusters(runs).boundaries(alloc, Text::Str(text))?)
 }
 
 fn machine(alloc: Global, symbols: ClassTable) -> Result<SegmenterStateMachine, Failure> {

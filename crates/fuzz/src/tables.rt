@@ -56,7 +56,7 @@ impl Classes {
 
 /// The numbers of a pair table.
 #[derive(Clone, Copy)]
-pub struct Numbers {
+pub struct TableNumbers {
     /// How many classes and states there are. The last two are those of the start and the end.
     pub count: u8,
     /// The class of complex code points.
@@ -65,7 +65,7 @@ pub struct Numbers {
     pub classes: Classes,
 }
 
-impl Numbers {
+impl TableNumbers {
     /// The numbers of a table of few classes, of which only words mostly have one of complex code points.
     pub fn few(dice: &mut Dice, has_complex: bool) -> Self {
         let plain = dice.below(5).saturating_add(2);
@@ -74,7 +74,7 @@ impl Numbers {
         } else {
             255
         };
-        Numbers {
+        TableNumbers {
             count: plain.saturating_add(3),
             complex,
             classes: Classes {
@@ -92,7 +92,7 @@ impl Numbers {
         } else {
             complex
         };
-        Numbers {
+        TableNumbers {
             count,
             complex,
             classes: Classes {
@@ -170,7 +170,7 @@ fn bytes(alloc: Global, dice: &mut Dice, count: u8) -> Result<Vec<u8>, AllocErro
 
 /// A pair table of clusters. The errors are those of its parts, and out of memory.
 pub fn cluster_table(alloc: Global, dice: &mut Dice) -> Result<RuleBreakData, Failure> {
-    Numbers::few(dice, false).table(alloc, dice)
+    TableNumbers::few(dice, false).table(alloc, dice)
 }
 
 /// An override of some classes, if there is one. The errors are those of its ranges, and out of memory.

@@ -6,7 +6,7 @@ use crate::near::{check_near, check_words};
 use crate::parts::{check_segments, check_wrapped};
 use crate::samples::{decoded, random_bytes, random_units, size, starts};
 use bench::found::Found;
-use bench::segmenter::{Segmenter, SegmenterBorrowed, Text};
+use bench::segmenter::{AnySegmenter, AnySegmenterBorrowed, Text};
 use icu_segmenter::indices::Utf8CharIndices;
 use icu_segmenter::memo::{MemoBreakIterator, MemoError};
 use icu_segmenter::provider::DataError;
@@ -22,7 +22,7 @@ use std::alloc::Global;
 pub fn examine_owned(
     alloc: Global,
     dice: &mut Dice,
-    made: Result<Segmenter, DataError>,
+    made: Result<AnySegmenter, DataError>,
 ) -> Result<bool, Failure> {
     let segmenter = made?;
     examine(alloc, dice, Ok(segmenter.as_borrowed()))
@@ -36,7 +36,7 @@ const TIMES: u8 = 8;
 pub fn examine(
     alloc: Global,
     dice: &mut Dice,
-    made: Result<SegmenterBorrowed<'_>, DataError>,
+    made: Result<AnySegmenterBorrowed<'_>, DataError>,
 ) -> Result<bool, Failure> {
     let segmenter = made?;
     let mut has_memo = false;
@@ -50,7 +50,7 @@ pub fn examine(
 fn check_texts(
     alloc: Global,
     dice: &mut Dice,
-    segmenter: SegmenterBorrowed<'_>,
+    segmenter: AnySegmenterBorrowed<'_>,
 ) -> Result<bool, Failure> {
     let manner = dice.below(3);
     let columns = usize::from(dice.below(12));
@@ -62,7 +62,7 @@ fn check_texts(
 
 fn check_units(
     alloc: Global,
-    segmenter: SegmenterBorrowed<'_>,
+    segmenter: AnySegmenterBorrowed<'_>,
     manner: u8,
     units: &[u16],
 ) -> Result<(), Failure> {
@@ -73,7 +73,7 @@ fn check_units(
 // Bytes have the boundaries of their characters. Says whether there is a memo.
 fn check_bytes(
     alloc: Global,
-    segmenter: SegmenterBorrowed<'_>,
+    segmenter: AnySegmenterBorrowed<'_>,
     manner: u8,
     columns: usize,
     bytes: &[u8],
@@ -89,7 +89,7 @@ fn check_bytes(
 // them, and what a cursor says next to the place that `columns` numbers. Says whether there is a memo.
 fn check_text(
     alloc: Global,
-    segmenter: SegmenterBorrowed<'_>,
+    segmenter: AnySegmenterBorrowed<'_>,
     manner: u8,
     columns: usize,
     text: &str,
@@ -104,7 +104,7 @@ fn check_text(
 
 // The segments of a text, its wrapped lines and its words are to agree with its boundaries.
 fn check_parts(
-    segmenter: SegmenterBorrowed<'_>,
+    segmenter: AnySegmenterBorrowed<'_>,
     manner: u8,
     columns: usize,
     text: &str,
@@ -117,7 +117,7 @@ fn check_parts(
 // A text is to have these boundaries in each encoding that has it.
 fn check_encodings(
     alloc: Global,
-    segmenter: SegmenterBorrowed<'_>,
+    segmenter: AnySegmenterBorrowed<'_>,
     manner: u8,
     text: &str,
     expected: &Found,
@@ -129,7 +129,7 @@ fn check_encodings(
 
 fn check_utf16(
     alloc: Global,
-    segmenter: SegmenterBorrowed<'_>,
+    segmenter: AnySegmenterBorrowed<'_>,
     text: &str,
     expected: &Found,
 ) -> Result<(), Failure> {
@@ -140,7 +140,7 @@ fn check_utf16(
 // So does a text in Latin-1, if it has all its characters.
 fn check_latin1(
     alloc: Global,
-    segmenter: SegmenterBorrowed<'_>,
+    segmenter: AnySegmenterBorrowed<'_>,
     manner: u8,
     text: &str,
     expected: &Found,
@@ -159,7 +159,7 @@ fn check_latin1(
 
 fn check_same(
     alloc: Global,
-    segmenter: SegmenterBorrowed<'_>,
+    segmenter: AnySegmenterBorrowed<'_>,
     text: Text<'_>,
     expected: &Found,
 ) -> Result<(), Failure> {
@@ -173,7 +173,7 @@ fn check_same(
 // The boundaries of a text, each with how many items stand before it in the place of its place. They are to cover the text.
 fn counted(
     alloc: Global,
-    segmenter: SegmenterBorrowed<'_>,
+    segmenter: AnySegmenterBorrowed<'_>,
     text: Text<'_>,
 ) -> Result<Found, Failure> {
     let starts = starts(alloc, text)?;
@@ -219,17 +219,19 @@ type Memo<'data, 's> = Result<
 // Whether there is a memo, which is to give the same boundaries.
 fn has_memo(
     alloc: Global,
-    segmenter: SegmenterBorrowed<'_>,
+    segmenter: AnySegmenterBorrowed<'_>,
     text: &str,
     found: &Found,
 ) -> Result<bool, Failure> {
     match segmenter {
-        SegmenterBorrowed::Clusters(clusters) => has_memo_of_clusters(alloc, clusters, text, found),
-        SegmenterBorrowed::Sentences(sentences) => {
+        AnySegmenterBorrowed::Clusters(clusters) => has_memo_of_clusters(
+            alloc, clusters, text, found,
+        ),
+        AnySegmenterBorrowed::Sentences(sentences) => {
             has_memo_of_sentences(alloc, sentences, text, found)
         }
-        SegmenterBorrowed::Words(words) => has_memo_of_words(alloc, words, text, found),
-        SegmenterBorrowed::Lines(lines) => has_memo_of_lines(alloc, lines, text, found),
+        AnySegmenterBorrowed::Words(words) => has_memo_of_words(alloc, words, text, found),
+        AnySegmenterBorrowed::Lines(lines) => has_memo_of_lines(alloc, lines, text, found),
     }
 }
 

@@ -45,7 +45,7 @@ def entries_array(table):
 
 def uses(table):
     entries = [e if isinstance(e, str) else e[0] for row in table.entries for e in row]
-    names = {"Numbers"} | {e for e in entries if e.isupper()}
+    names = {"TableNumbers"} | {e for e in entries if e.isupper()}
     variants = ", ".join(["self"] + sorted({e for e in entries if not e.isupper()}))
     return [f"use crate::parts::{{{', '.join(sorted(names))}}};", f"use icu_segmenter::provider::BreakState::{{{variants}}};", ""]
 
@@ -61,7 +61,7 @@ def data(summary, table):
                lines_of(f"(0x{first:X}, 0x{last:X}, {value})" for first, last, value in ranges)), "",
         *constant("The class of the code points that no range of CLASSES holds.", "OTHER_CLASS", "u8", found.other),
         *entries_array(table), "", *(statuses if any(table.statuses) else []),
-        "/// The numbers of classes.", "pub(super) const NUMBERS: Numbers = Numbers {", f"    count: {table.count},", f"    last: {table.last},",
+        "/// The numbers of classes.", "pub(super) const NUMBERS: TableNumbers = TableNumbers {", f"    count: {table.count},", f"    last: {table.last},",
         f"    start_of_text: {table.start_of_text},", f"    end_of_text: {table.end_of_text},", f"    complex: {found.complex},", "};"]) + "\n"
 
 

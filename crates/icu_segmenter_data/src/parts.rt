@@ -17,7 +17,7 @@ pub(crate) const NO_MATCH: BreakState = BreakState::NoMatch;
 
 /// The numbers of a pair table.
 #[derive(Clone, Copy)]
-pub(crate) struct Numbers {
+pub(crate) struct TableNumbers {
     /// How many classes and composites there are.
     pub count: u8,
     /// The last class; composites have higher numbers.
@@ -37,7 +37,7 @@ pub(crate) fn table_of(
     other: u8,
     entries: &[BreakState],
     statuses: &[u8],
-    numbers: Numbers,
+    numbers: TableNumbers,
 ) -> Result<RuleBreakData, DataError>
     ensures made { IfOk result (λ t. t ≡ pair_table (table ranges.now other) entries.now statuses.now numbers.count numbers.last numbers.start_of_text numbers.end_of_text numbers.complex) }
     ensures rejected { IfErr result (λ fault. (fault ≡ Memory) ⊎ HasRangeFault ranges.now fault

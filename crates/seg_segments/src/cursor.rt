@@ -33,7 +33,7 @@ use std::marker::Model;
 pub use texts::CursorText;
 
 /// A segmenter, as cursors ask it.
-pub trait Segmenter: Drop {
+pub trait BoundaryFinder: Drop {
     /// How the boundaries of a list of code points are found.
     ghost find: { Self → List ℕ → List Boundary };
 
@@ -55,7 +55,7 @@ pub trait Segmenter: Drop {
 }
 
 /// A segmenter of texts in one encoding: that which the cursor reads.
-pub trait SegmenterOf<I: Source>: Segmenter {
+pub trait SegmenterOf<I: Source>: BoundaryFinder {
     /// An iterator over the boundaries of a text.
     type Breaks: BreakIterator;
 

@@ -7,7 +7,7 @@ use Rattle.segment_text.specs.Counts.{count_line}
 use Rattle.segment_output.specs.Output.{Look, lines_at}
 use Rattle.segment_output.specs.Parts.{IsBegun, count_for, found_for, output_for, printed_behind, text_for}
 use Rattle.segment_text.specs.Preparation.{prepared}
-use Rattle.segment_output.specs.Segmenter.{segments_by}
+use Rattle.segment_output.specs.TextSegmenter.{segments_by}
 use Rattle.segment_output.specs.Limited.{Bound, IsSetOutput}
 use Rattle.segment_output.specs.Paragraphs.{AppendsSome, Choosing, chosen_by}
 use Rattle.segment_output.specs.Wrapped.{wrapped_output}
@@ -25,7 +25,7 @@ use Rattle.segment_output.specs.declared.parts.Printing.{Printing}
 use Rattle.segment_output.specs.declared.parts.Printing.TheVariants.{Segments, Lines}
 use Rattle.segment_output.specs.declared.parts.Splitting.{Splitting}
 use Rattle.segment_text.specs.declared.preparation.Preparation.{Preparation}
-use Rattle.segment_output.specs.declared.segmenter.Segmenter.{Segmenter}
+use Rattle.segment_output.specs.declared.segmenter.TextSegmenter.{TextSegmenter}
 use Rattle.segment_output.specs.declared.wrapper.Wrapper.{Wrapper}
 use Rattle.segment.specs.declared.job.Job.{Job}
 use Rattle.segment.specs.declared.job.Action.{Action}
@@ -81,7 +81,7 @@ begun-whole P Q (Err fault) is = λ of_reader. inl (is of_reader)
 module _ (file : Option (List ℕ)) where
   pub printed-split : (action : Action) (printing : Printing) (text : List ℕ) → IsPrintingOf action file printing → IsActionOutput action file text (printed_behind printing 0 text)
   printed-split (Cut segmenter style) (Segments one how name) text (same, is, named) =
-      ap₂ (λ (segmenter : Segmenter) (look : Look). lines_at look 0 text (segments_by segmenter text)) same
+      ap₂ (λ (segmenter : TextSegmenter) (look : Look). lines_at look 0 text (segments_by segmenter text)) same
       (ap₂ (λ (style : Style) (file : Option (List ℕ)). let look : Look = record { style = style; file = file } in look) is named)
       ∙ lines-at_zero (record { style = style; file = file }) text (segments_by segmenter text)
   printed-split (Cut segmenter style) (Lines one) text is = absurd is
@@ -90,7 +90,7 @@ module _ (file : Option (List ℕ)) where
   printed-split (Paragraphs action) printing text is = absurd is
 
   count-split : (action : Action) (printing : Printing) (text : List ℕ) → IsPrintingOf action file printing → count_for printing text ≡ count_by action text
-  count-split (Cut segmenter style) (Segments one how name) text (same, is, named) = ap (λ (segmenter : Segmenter). length (segments_by segmenter text)) same
+  count-split (Cut segmenter style) (Segments one how name) text (same, is, named) = ap (λ (segmenter : TextSegmenter). length (segments_by segmenter text)) same
   count-split (Cut segmenter style) (Lines one) text is = absurd is
   count-split (Wrap wrapper) (Segments one how name) text is = absurd is
   count-split (Wrap wrapper) (Lines one) text is = refl

@@ -9,7 +9,7 @@ use Rattle.segment_output.specs.Output.{lines_of}
 use Rattle.segment_text.specs.Counts.{count_line}
 use Rattle.segment_output.specs.Parts.{IsBegun}
 use Rattle.segment_text.specs.Preparation.{prepared}
-use Rattle.segment_output.specs.Segmenter.{segments_by, IsAskedOf}
+use Rattle.segment_output.specs.TextSegmenter.{segments_by, IsAskedOf}
 use Rattle.segment_text.specs.Size.{size_of}
 use Rattle.segment_output.specs.Limited.{Bound, IsSetOutput, bound_of}
 use Rattle.segment_output.specs.Paragraphs.{chosen_by}

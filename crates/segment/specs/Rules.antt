@@ -5,8 +5,8 @@ use Rattle.clap.specs.declared.parser.matches.Found.{Found}
 use Rattle.seg_rules.specs.Passed.{FindsPlaces}
 use Rattle.seg_rules.specs.RowRules.{RowRules}
 use Rattle.segment_output.specs.declared.output.Style.{Style}
-use Rattle.segment_output.specs.declared.segmenter.Segmenter.{Segmenter}
-use Rattle.segment_output.specs.declared.segmenter.Segmenter.TheVariants.{Ruled}
+use Rattle.segment_output.specs.declared.segmenter.TextSegmenter.{TextSegmenter}
+use Rattle.segment_output.specs.declared.segmenter.TextSegmenter.TheVariants.{Ruled}
 use Rattle.segment.specs.Command.{IsFlag, IsStyle}
 use Rattle.segment.specs.declared.job.Job.{Job}
 use Rattle.segment.specs.declared.job.Action.{Action}
@@ -23,7 +23,7 @@ IsRulesRequest found request =
 
 -- a segmenter's boundaries are those of a machine that finds the places where some rules break, and those segments are left out, or not, which
 -- end at a boundary of status 1
-abbrev pub IsByRules : RowRules → Bool → Segmenter → Type 0
+abbrev pub IsByRules : RowRules → Bool → TextSegmenter → Type 0
 IsByRules rules tokens (Ruled machine alone) = FindsPlaces rules machine × (alone ≡ tokens)
 IsByRules rules tokens segmenter = ⊥
 

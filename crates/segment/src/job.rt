@@ -11,7 +11,7 @@ use anyhow::Result;
 use icu_segmenter::options::LineBreakOptions;
 use icu_segmenter::wrap::Fit;
 use segment_output::output::Style;
-use segment_output::segmenter::{Segmenter, segmenter_of};
+use segment_output::segmenter::{TextSegmenter, segmenter_of};
 use segment_output::vocabulary::Vocabulary;
 use segment_output::wrapper::limited::Setting;
 use segment_output::wrapper::{Width, Wrapper, wrapper_of};
@@ -35,7 +35,7 @@ pub struct Job {
 #[derive(Drop)]
 pub enum Action {
     /// It is cut into segments: by what, and how they are written.
-    Cut(Segmenter, Style),
+    Cut(TextSegmenter, Style),
     /// Its lines are wrapped.
     Wrap(Wrapper),
     /// Its lines are chosen paragraph by paragraph.

@@ -14,7 +14,7 @@ use icu_segmenter::provider::{SegmenterStateMachine, Symbol};
 use seg_compile::compile::{CompileError, Witness};
 use seg_notation::{TextError, TextRules};
 use segment_output::output::Style;
-use segment_output::segmenter::Segmenter;
+use segment_output::segmenter::TextSegmenter;
 use segment_text::preparation::Preparation;
 use std::alloc::{AllocError, Global};
 use std::rt::Files;
@@ -162,7 +162,7 @@ pub fn job_by(rules: OwnRules, tokens: bool, style: Style) -> Job
             tabs: None,
             joins: false,
         },
-        action: Action::Cut(Segmenter::Ruled(machine, tokens), style),
+        action: Action::Cut(TextSegmenter::Ruled(machine, tokens), style),
         names_files: false,
     }
 }

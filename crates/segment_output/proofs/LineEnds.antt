@@ -28,7 +28,7 @@ use Rattle.icu_segmenter_uax14.specs.Lines.{line_machine, line_tailorings}
 use Rattle.icu_segmenter_uax14.specs.Neighbours.{BreaksWith}
 use Rattle.icu_segmenter_uax14.specs.Tailored.{Tailoring, machine_by}
 use Rattle.icu_segmenter_uax14.specs.Tailored.Tailoring.{Untailored, BreakAll, KeepAll, JaLoose, Loose, JaNormal, Normal, Ja}
-use Rattle.segment_output.specs.Segmenter.{line_rules_by}
+use Rattle.segment_output.specs.TextSegmenter.{line_rules_by}
 use Rattle.segment_output.specs.Wrapped.{EndsLines, last_status}
 use Rattle.segment_output.specs.declared.segmenter.Engine.TheVariants as engine
 use Rattle.segment_output.proofs.JoinedCuts.{rises-order}

@@ -18,7 +18,7 @@ use Rattle.segment_text.specs.Fault.{IsReadFault}
 use Rattle.segment_output.specs.Output.{Look, Segment, is_shown, lines_at, lines_of, segment_between, segments}
 use Rattle.segment_text.specs.Blocks.{AreLines, AreWhole}
 use Rattle.segment_output.specs.Parts.{IsAdded, IsBegun, IsPartWritten, MayBeSplit, boundaries_for, count_for, found_for, look_by, output_for, printed_behind, text_for}
-use Rattle.segment_output.specs.Segmenter.{boundaries_by, has_words_alone, mark_by, segments_by}
+use Rattle.segment_output.specs.TextSegmenter.{boundaries_by, has_words_alone, mark_by, segments_by}
 use Rattle.segment_text.specs.Size.{both_sizes, size_of}
 use Rattle.segment_text.specs.declared.fault.Fault.{Fault}
 use Rattle.segment_text.specs.declared.size.Size.{Size}
@@ -28,7 +28,7 @@ use Rattle.segment_output.specs.declared.parts.Printing.{Printing}
 use Rattle.segment_output.specs.declared.parts.Printing.TheVariants.{Segments, Lines}
 use Rattle.segment_output.specs.declared.parts.Progress.{Progress}
 use Rattle.segment_output.specs.declared.parts.Splitting.{Splitting}
-use Rattle.segment_output.specs.declared.segmenter.Segmenter.{Segmenter}
+use Rattle.segment_output.specs.declared.segmenter.TextSegmenter.{TextSegmenter}
 use Rattle.segment_output.specs.declared.wrapper.Wrapper.{Wrapper}
 use Rattle.segment_output.specs.Wrapped.{EndsLines, Wrapping, shown_line, shown_lines, wrapped_output}
 use Rattle.segment_output.specs.Wrapper.{wrapping_of}
@@ -58,12 +58,12 @@ module _ (alone : Bool) (mark : ℕ → Mark) where
   segments-cut [] = refl
   segments-cut (found ∷ boundaries) = segments-from (found.offset, mark found.status) boundaries
 
-cuts-are : (segmenter : Segmenter) (bytes : List ℕ) → segments_by segmenter bytes ≡ cut_all (has_words_alone segmenter) (mark_by segmenter) (boundaries_by segmenter bytes)
+cuts-are : (segmenter : TextSegmenter) (bytes : List ℕ) → segments_by segmenter bytes ≡ cut_all (has_words_alone segmenter) (mark_by segmenter) (boundaries_by segmenter bytes)
 cuts-are segmenter bytes = segments-cut (has_words_alone segmenter) (mark_by segmenter) (boundaries_by segmenter bytes)
 
 -- ---- the segments of lines, and of what comes after them
 
-module _ (segmenter : Segmenter) (look : Look) (parts : PartsBehind (boundaries_by segmenter) line_feed) where
+module _ (segmenter : TextSegmenter) (look : Look) (parts : PartsBehind (boundaries_by segmenter) line_feed) where
   boundaries-are : (done part : List ℕ) → AreLines done
       → boundaries_by segmenter (done ++ part) ≡ boundaries_by segmenter done ++ shift_all (length done) (drop 1 (boundaries_by segmenter part))
   boundaries-are done part (before, is) =

@@ -4,7 +4,7 @@ pub mod Limited
 pub mod Objects
 pub mod Output
 pub mod Parts
-pub mod Segmenter
+pub mod TextSegmenter
 pub mod Stretch
 pub mod Wrapped
 pub mod Wrapper

@@ -12,7 +12,7 @@ use Rattle.icu_segmenter.specs.Rules.{PartsBehind}
 use Rattle.segment_output.specs.Output.{Look, lines_at}
 use Rattle.segment_text.specs.Blocks.{AreWhole}
 use Rattle.segment_text.specs.Preparation.{prepared}
-use Rattle.segment_output.specs.Segmenter.{boundaries_by, segments_by}
+use Rattle.segment_output.specs.TextSegmenter.{boundaries_by, segments_by}
 use Rattle.segment_text.specs.Size.{both_sizes, size_of}
 use Rattle.segment_output.specs.Wrapped.{wrapped_output, EndsLines}
 use Rattle.segment_output.specs.Wrapper.{wrapping_of}

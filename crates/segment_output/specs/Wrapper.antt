@@ -9,7 +9,7 @@ use Rattle.icu_segmenter.specs.ScriptWords.{ScriptWords}
 use Rattle.icu_segmenter.specs.declared.options.LineBreakOptions.{LineBreakOptions}
 use Rattle.icu_segmenter_uax29.specs.Clusters.{cluster_machine}
 use Rattle.icu_segmenter.specs.Wrapping.{room_beside}
-use Rattle.segment_output.specs.Segmenter.{line_rules_by}
+use Rattle.segment_output.specs.TextSegmenter.{line_rules_by}
 use Rattle.segment_output.specs.Wrapped.{Wrapping, cluster_lines, measure_by}
 use Rattle.segment_output.specs.declared.segmenter.Engine.TheVariants as engine
 use Rattle.segment_output.specs.declared.wrapper.Width.{Width}

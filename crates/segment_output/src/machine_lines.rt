@@ -8,7 +8,7 @@ ghost use Rattle.icu_segmenter.specs.LineRules.{style_of};
 ghost use Rattle.segment_output.specs.Wrapped.{EndsLines};
 
 use crate::segmenter::{Engine, line_segmenter};
-use icu_segmenter::cursor::Segmenter;
+use icu_segmenter::cursor::TextSegmenter;
 use icu_segmenter::options::{LineBreakOptions, LineBreakStrictness};
 use icu_segmenter::provider::{DataError, Dictionaries};
 use icu_segmenter::wrap::LineWrapper;
@@ -34,7 +34,7 @@ impl MachineLines {
     ghost use Rattle.icu_segmenter.specs.Rules.{PartsBehind};
     ghost use Rattle.icu_segmenter.specs.ScriptWords.{script_words};
     ghost use Rattle.icu_segmenter.specs.WrappedLines.{wrapper_measure, wrapper_rules};
-    ghost use Rattle.segment_output.specs.Segmenter.{line_rules_by};
+    ghost use Rattle.segment_output.specs.TextSegmenter.{line_rules_by};
     ghost use Rattle.segment_output.specs.Wrapped.{measure_by};
 
     /// The segmenter of lines by Unicode's machine, with these options and dictionaries. Fails only when out of memory.

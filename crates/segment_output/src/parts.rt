@@ -9,7 +9,7 @@ ghost use Rattle.segment_output.specs.Parts.{IsAdded, IsBegun, IsPartWritten, Ma
 ghost use Rattle.segment_text.specs.Size.{both_sizes, size_of};
 
 use crate::output::{Part, Style};
-use crate::segmenter::Segmenter;
+use crate::segmenter::TextSegmenter;
 use crate::wrapper::Wrapper;
 use segment_text::blocks::{hold, read_block, whole_len};
 use segment_text::fault::Fault;
@@ -26,7 +26,7 @@ const BLOCK_LEN: usize = 65536;
 #[derive(Clone, Copy)]
 pub enum Printing<'p> {
     /// Its segments, in a style, and where objects and offsets name a file, with that name.
-    Segments(&'p Segmenter, Style, Option<&'p str>),
+    Segments(&'p TextSegmenter, Style, Option<&'p str>),
     /// Its wrapped lines.
     Lines(&'p Wrapper),
 }
@@ -65,16 +65,6 @@ impl<'p> Printing<'p> {
         }
     }
 
-    // The first boundary of a text is at its start, and the last at its end.
-    fn cover(self, text: &[u8])
-        ensures { IsCover 0 (length text.now) (boundaries_for self.entry text.now) }
-    {
-        match self {
-            Printing::Segments(segmenter, _, _) => segmenter.cover(text),
-            Printing::Lines(wrapper) => wrapper.cover(text),
-        }
-    }
-
     /// Writes what is written of a part of a text, before which so many bytes stand, flushes, and says how many segments it has. The errors are
     /// the writer's, and being out of memory.
     pub fn print<O: Write>(
@@ -84,7 +74,8 @@ impl<'p> Printing<'p> {
         before: usize,
         out: &mut O,
     ) -> io::Result<usize>
-        ensures { IfOk result (λ count. (count ≡ count_for self.entry text.now)
+        ensures cover { IsCover 0 (length text.now) (boundaries_for self.entry text.now) }
+        ensures written { IfOk result (λ count. (count ≡ count_for self.entry text.now)
             × Appends (O.contents out.old) (O.contents out.new) (printed_behind self.entry before text.now)) }
     {
         match self {
@@ -198,7 +189,6 @@ fn print_part<O: Write>(
     let Ok(text) = splitting.preparation.apply(alloc, part) else {
         return Err(Fault::MemoryBefore);
     };
-    splitting.printing.cover(text.as_slice());
     let segments = splitting
         .printing
         .print(alloc, text.as_slice(), progress.made, out)

@@ -14,13 +14,13 @@ ghost use Rattle.icu_segmenter.specs.ScriptWords.{script_words};
 ghost use Rattle.icu_segmenter.specs.Suppressing.{suppressing_finder};
 ghost use Rattle.icu_segmenter.specs.TextSegments.{marked};
 ghost use Rattle.icu_segmenter.specs.Words.{owned_word_rules};
-ghost use Rattle.segment_output.specs.Segmenter.{anywhere_by, boundaries_by, cluster_rules_by, line_rules_by, line_rules_of, segments_by, sentence_rules_by, suppressed_finder, word_rules_by, IsAskedOf};
+ghost use Rattle.segment_output.specs.TextSegmenter.{anywhere_by, boundaries_by, cluster_rules_by, line_rules_by, line_rules_of, segments_by, sentence_rules_by, suppressed_finder, word_rules_by, IsAskedOf};
 ghost use Rattle.segment_output.specs.declared.marks.Mark.TheVariants.{Rule};
 
 use crate::marks::{Bare, HasMark, Marked, Ruled};
 use crate::output::{Part, print_segments};
 use crate::vocabulary::Vocabulary;
-use icu_segmenter::cursor::Segmenter as Cursor;
+use icu_segmenter::cursor::TextSegmenter as Cursor;
 use icu_segmenter::options::{LineBreakOptions, LineBreakStrictness};
 use icu_segmenter::provider::{
     DataError, Dictionaries, LineTailoringsBorrowed, SegmenterStateMachine,
@@ -65,7 +65,7 @@ pub enum Engine {
 
 /// A segmenter with data of its own.
 #[derive(Drop)]
-pub enum Segmenter {
+pub enum TextSegmenter {
     /// Of grapheme clusters.
     Clusters(GraphemeClusterSegmenter),
     /// Of words, and whether they are shown alone, without what stands between them.
@@ -80,40 +80,41 @@ pub enum Segmenter {
     Ruled(SegmenterStateMachine, bool),
 }
 
-impl Segmenter {
-    /// Writes the segments of a part of a text, each on a line of its own, flushes, and says how many there are. The errors are the
-    /// writer's, and being out of memory.
+impl TextSegmenter {
+    /// Writes the segments of a part of a text, each on a line of its own, flushes, and says how many there are: the first begins at its
+    /// start, and the last ends at its end. The errors are the writer's, and being out of memory.
     pub fn print_part<O: Write>(
         &self,
         alloc: Global,
         part: Part<'_>,
         out: &mut O,
     ) -> io::Result<usize>
-        ensures { IfOk result (λ count. (count ≡ length (segments_by self.now part.entry.bytes.now))
+        ensures cover { IsCover 0 (length part.entry.bytes.now) (boundaries_by self.now part.entry.bytes.now) }
+        ensures written { IfOk result (λ count. (count ≡ length (segments_by self.now part.entry.bytes.now))
             × Appends (O.contents out.old) (O.contents out.new) (lines_at (look_of part.entry) part.entry.before part.entry.bytes.now (segments_by self.now part.entry.bytes.now))) }
     {
         match self {
-            Segmenter::Clusters(clusters) => {
+            TextSegmenter::Clusters(clusters) => {
                 let places = clusters.as_borrowed().segment_utf8(part.bytes);
                 print_breaks(alloc, places, false, part, out)
             }
-            Segmenter::Words(words, alone) => {
+            TextSegmenter::Words(words, alone) => {
                 let places = words.as_borrowed().segment_utf8(part.bytes);
                 print_breaks(alloc, places, *alone, part, out)
             }
-            Segmenter::Sentences(sentences) => {
+            TextSegmenter::Sentences(sentences) => {
                 let places = sentences.as_borrowed().segment_utf8(part.bytes);
                 print_breaks(alloc, places, false, part, out)
             }
-            Segmenter::Suppressing(sentences, abbreviations) => {
+            TextSegmenter::Suppressing(sentences, abbreviations) => {
                 let places = suppressing(sentences, abbreviations).segment_utf8(part.bytes);
                 print_breaks(alloc, places, false, part, out)
             }
-            Segmenter::Lines(lines) => {
+            TextSegmenter::Lines(lines) => {
                 let places = lines.as_borrowed().segment_utf8(part.bytes);
                 print_breaks(alloc, places, false, part, out)
             }
-            Segmenter::Ruled(machine, alone) => {
+            TextSegmenter::Ruled(machine, alone) => {
                 let places = anywhere(machine).segment_utf8(part.bytes);
                 print_ruled(alloc, places, *alone, part, out)
             }
@@ -177,47 +178,23 @@ fn print_ruled<B: BreakIterator<Mark = bool>, O: Write>(
     print_segments(alloc, &mut places, alone, part, out)
 }
 
-impl Segmenter {
+impl TextSegmenter {
     /// Whether a text may be cut part by part, each behind a line feed: each has the boundaries that it has in the whole text. It is so
     /// by Unicode's machines. Takes no memory.
     pub fn has_parts(&self) -> bool
         ensures { IsTrue result → PartsBehind (boundaries_by self.now) line_feed }
     {
         match self {
-            Segmenter::Clusters(clusters) => clusters.as_borrowed().parts_behind_line_feeds(),
-            Segmenter::Words(words, _) => words.as_borrowed().parts_behind_line_feeds(),
-            Segmenter::Sentences(sentences) => sentences.as_borrowed().parts_behind_line_feeds(),
-            Segmenter::Suppressing(sentences, abbreviations) => {
+            TextSegmenter::Clusters(clusters) => clusters.as_borrowed().parts_behind_line_feeds(),
+            TextSegmenter::Words(words, _) => words.as_borrowed().parts_behind_line_feeds(),
+            TextSegmenter::Sentences(sentences) => sentences
+                .as_borrowed()
+                .parts_behind_line_feeds(),
+            TextSegmenter::Suppressing(sentences, abbreviations) => {
                 suppressing(sentences, abbreviations).parts_behind_line_feeds()
             }
-            Segmenter::Lines(lines) => lines.as_borrowed().parts_behind_line_feeds(),
-            Segmenter::Ruled(machine, _) => anywhere(machine).parts_behind_line_feeds(),
-        }
-    }
-
-    /// The first boundary of a text is at its start, and the last at its end. Takes no memory.
-    pub fn cover(&self, text: &[u8])
-        ensures { IsCover 0 (length text.now) (boundaries_by self.now text.now) }
-    {
-        match self {
-            Segmenter::Clusters(clusters) => {
-                let _ = clusters.as_borrowed().segment_utf8(text);
-            }
-            Segmenter::Words(words, _) => {
-                let _ = words.as_borrowed().segment_utf8(text);
-            }
-            Segmenter::Sentences(sentences) => {
-                let _ = sentences.as_borrowed().segment_utf8(text);
-            }
-            Segmenter::Suppressing(sentences, abbreviations) => {
-                let_go(suppressing(sentences, abbreviations).segment_utf8(text));
-            }
-            Segmenter::Lines(lines) => {
-                let _ = lines.as_borrowed().segment_utf8(text);
-            }
-            Segmenter::Ruled(machine, _) => {
-                let _ = anywhere(machine).segment_utf8(text);
-            }
+            TextSegmenter::Lines(lines) => lines.as_borrowed().parts_behind_line_feeds(),
+            TextSegmenter::Ruled(machine, _) => anywhere(machine).parts_behind_line_feeds(),
         }
     }
 }
@@ -234,9 +211,6 @@ fn suppressing<'data>(
         abbreviations,
     }
 }
-
-// Drops an iterator.
-fn let_go<B: BreakIterator>(_breaks: B) {}
 
 // What finds the boundaries of a machine of the caller's own, with their statuses: where a line may end anywhere, those of clusters are its
 // breaks, and the machine may stand for that of clusters.
@@ -265,7 +239,7 @@ pub fn segmenter_of(
     engine: Engine,
     options: LineBreakOptions<'_>,
     words: Vocabulary,
-) -> Result<Segmenter, DataError>
+) -> Result<TextSegmenter, DataError>
     ensures { IfOk result (λ segmenter. IsAskedOf kind engine options.entry (script_words words.dictionaries) (option_map abbreviations_of words.abbreviations) segmenter) }
 {
     let Vocabulary {
@@ -274,21 +248,21 @@ pub fn segmenter_of(
         patterns: _,
     } = words;
     match kind {
-        Kind::Clusters => Ok(Segmenter::Clusters(cluster_segmenter(alloc, engine)?)),
+        Kind::Clusters => Ok(TextSegmenter::Clusters(cluster_segmenter(alloc, engine)?)),
         Kind::Words { alone } => {
             let words = word_segmenter(alloc, engine, dictionaries)?;
-            Ok(Segmenter::Words(words, alone))
+            Ok(TextSegmenter::Words(words, alone))
         }
         Kind::Sentences => {
             let sentences = sentence_segmenter(alloc, engine)?;
             match abbreviations {
-                Some(abbreviations) => Ok(Segmenter::Suppressing(sentences, abbreviations)),
-                None => Ok(Segmenter::Sentences(sentences)),
+                Some(abbreviations) => Ok(TextSegmenter::Suppressing(sentences, abbreviations)),
+                None => Ok(TextSegmenter::Sentences(sentences)),
             }
         }
         Kind::Lines => {
             let lines = line_segmenter(alloc, engine, options, dictionaries)?;
-            Ok(Segmenter::Lines(lines))
+            Ok(TextSegmenter::Lines(lines))
         }
     }
 }

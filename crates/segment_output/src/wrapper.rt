@@ -69,10 +69,12 @@ pub struct Wrapper {
 
 impl Wrapper {
     /// Writes the wrapped lines of a text, each without its trailing white space and with a line feed, and flushes. What is ill-formed is
-    /// written as it is. The errors are the writer's, and being out of memory.
+    /// written as it is. The places where a line may break cover the text. The errors are the writer's, and being out of memory.
     pub fn print<O: Write>(&self, alloc: Global, text: &[u8], out: &mut O) -> io::Result<()>
-        ensures { OnOk result (Appends (O.contents out.old) (O.contents out.new) (wrapped_output (wrapping_of self.now) text.now)) }
+        ensures cover { IsCover 0 (length text.now) (line_boundaries_of (wrapping_of self.now).lines (utf8 text.now)) }
+        ensures written { OnOk result (Appends (O.contents out.old) (O.contents out.new) (wrapped_output (wrapping_of self.now) text.now)) }
     {
+        self.lines.cover(text);
         let counted = self.counted_clusters();
         let wrapper = self.lines.wrapper(counted);
         self.print_all(alloc, wrapper.wrap_utf8_within(text, self.room), out)
@@ -172,13 +174,6 @@ impl Wrapper {
         ensures ends { IsTrue result → EndsLines (wrapping_of self.now).lines }
     {
         self.lines.has_parts()
-    }
-
-    /// The first place where a line of a text may break is at its start, and the last at its end. Takes no memory.
-    pub fn cover(&self, text: &[u8])
-        ensures { IsCover 0 (length text.now) (line_boundaries_of (wrapping_of self.now).lines (utf8 text.now)) }
-    {
-        self.lines.cover(text);
     }
 }
 

@@ -1,7 +1,7 @@
 //! The boundaries that segmenters of any kind find, counted and added up.
 
 use crate::tally::{Tally, tally_of};
-use bench::segmenter::{Segmenter, Text};
+use bench::segmenter::{AnySegmenter, Text};
 use icu_segmenter::indices::{Latin1Indices, StrCharIndices, Utf8CharIndices, Utf16Indices};
 use icu_segmenter::memo::{MemoBreakIterator, MemoError};
 use icu_segmenter::rule_segmenter_v2::CountedTransitions;
@@ -15,7 +15,7 @@ use std::alloc::Global;
 
 /// The boundaries of a text, counted and added up.
 #[inline(never)]
-pub fn tally(segmenter: &Segmenter, text: Text<'_>) -> Tally {
+pub fn tally(segmenter: &AnySegmenter, text: Text<'_>) -> Tally {
     match text {
         Text::Str(text) => tally_in(segmenter, StrCharIndices::new(text)),
         Text::Utf8(text) => tally_in(segmenter, Utf8CharIndices::new(text)),
@@ -24,12 +24,12 @@ pub fn tally(segmenter: &Segmenter, text: Text<'_>) -> Tally {
     }
 }
 
-fn tally_in<I: Source>(segmenter: &Segmenter, text: I) -> Tally {
+fn tally_in<I: Source>(segmenter: &AnySegmenter, text: I) -> Tally {
     match segmenter {
-        Segmenter::Clusters(clusters) => clusters_in(clusters.as_borrowed(), text),
-        Segmenter::Sentences(sentences) => sentences_in(sentences.as_borrowed(), text),
-        Segmenter::Words(words) => words_in(words.as_borrowed(), text),
-        Segmenter::Lines(lines) => lines_in(lines.as_borrowed(), text),
+        AnySegmenter::Clusters(clusters) => clusters_in(clusters.as_borrowed(), text),
+        AnySegmenter::Sentences(sentences) => sentences_in(sentences.as_borrowed(), text),
+        AnySegmenter::Words(words) => words_in(words.as_borrowed(), text),
+        AnySegmenter::Lines(lines) => lines_in(lines.as_borrowed(), text),
     }
 }
 
@@ -53,12 +53,20 @@ fn lines_in<I: Source>(lines: LineSegmenterBorrowed<'_>, text: I) -> Tally {
 /// The boundaries of a text in possibly ill-formed UTF-8 by the memoised engine, whose table of cells is made anew. The errors are those of
 /// `with_memo`.
 #[inline(never)]
-pub fn memo_tally(alloc: Global, segmenter: &Segmenter, text: &[u8]) -> Result<Tally, MemoError> {
+pub fn memo_tally(
+    alloc: Global,
+    segmenter: &AnySegmenter,
+    text: &[u8],
+) -> Result<Tally, MemoError> {
     match segmenter {
-        Segmenter::Clusters(clusters) => memo_of_clusters(alloc, clusters.as_borrowed(), text),
-        Segmenter::Sentences(sentences) => memo_of_sentences(alloc, sentences.as_borrowed(), text),
-        Segmenter::Words(words) => memo_of_words(alloc, words.as_borrowed(), text),
-        Segmenter::Lines(lines) => memo_of_lines(alloc, lines.as_borrowed(), text),
+        AnySegmenter::Clusters(clusters) => memo_of_clusters(alloc, clusters.as_borrowed(), text),
+        AnySegmenter::Sentences(sentences) => memo_of_sentences(
+            alloc,
+            sentences.as_borrowed(),
+            text,
+        ),
+        AnySegmenter::Words(words) => memo_of_words(alloc, words.as_borrowed(), text),
+        AnySegmenter::Lines(lines) => memo_of_lines(alloc, lines.as_borrowed(), text),
     }
 }
 

@@ -5,7 +5,7 @@ use crate::making::segmenter_of;
 use crate::segmenter::{memo_tally, tally};
 use crate::tally::Tally;
 use anyhow::Result;
-use bench::segmenter::{Segmenter, Text};
+use bench::segmenter::{AnySegmenter, Text};
 use std::alloc::Global;
 use std::io;
 use std::io::Write;
@@ -23,7 +23,7 @@ pub struct Trial {
     /// Which data it has.
     pub source: Data,
     /// The segmenter.
-    pub segmenter: Segmenter,
+    pub segmenter: AnySegmenter,
     /// How long making the segmenter and its data, and letting them go, took at best.
     pub making: Duration,
     /// The boundaries of the text in the last pass.

@@ -2,7 +2,7 @@
 
 use crate::data::both;
 use bench::found::{Found, shown};
-use bench::segmenter::{SegmenterBorrowed, Text};
+use bench::segmenter::{AnySegmenterBorrowed, Text};
 use icu_segmenter::GraphemeClusterSegmenterBorrowed;
 use icu_segmenter::indices::{Utf8CharIndices, Utf16Indices};
 use std::alloc::{AllocError, Global};
@@ -10,7 +10,7 @@ use std::alloc::{AllocError, Global};
 /// The boundaries of a text as rows have them; of a `str`, where those in the other encodings are at equal ordinals.
 pub fn boundaries_in_all(
     alloc: Global,
-    segmenter: SegmenterBorrowed<'_>,
+    segmenter: AnySegmenterBorrowed<'_>,
     text: Text<'_>,
 ) -> Result<String, AllocError> {
     let found = segmenter.boundaries(alloc, text)?;
@@ -25,7 +25,7 @@ pub fn boundaries_in_all(
 /// Whether the boundaries of a text are at equal ordinals in the encodings that have it.
 pub fn agrees_in_all(
     alloc: Global,
-    segmenter: SegmenterBorrowed<'_>,
+    segmenter: AnySegmenterBorrowed<'_>,
     text: &str,
 ) -> Result<bool, AllocError> {
     let found = segmenter.boundaries(alloc, Text::Str(text))?;
@@ -40,8 +40,8 @@ pub fn has_same_clusters(
     text: &str,
 ) -> Result<bool, AllocError> {
     let (found, expected) = both(
-        SegmenterBorrowed::Clusters(one).boundaries(alloc, Text::Str(text)),
-        SegmenterBorrowed::Clusters(other).boundaries(alloc, Text::Str(text)),
+        AnySegmenterBorrowed::Clusters(one).boundaries(alloc, Text::Str(text)),
+        AnySegmenterBorrowed::Clusters(other).boundaries(alloc, Text::Str(text)),
     )?;
     Ok(found.as_slice() == expected.as_slice())
 }
@@ -49,7 +49,7 @@ pub fn has_same_clusters(
 // Whether boundaries of a text, which are those in `str`, are at equal ordinals in the encodings that have it.
 fn agrees(
     alloc: Global,
-    segmenter: SegmenterBorrowed<'_>,
+    segmenter: AnySegmenterBorrowed<'_>,
     text: &str,
     found: &[(usize, char)],
 ) -> Result<bool, AllocError> {
@@ -75,7 +75,7 @@ fn ordinals_in_bytes(
 
 fn agrees_in_utf8(
     alloc: Global,
-    segmenter: SegmenterBorrowed<'_>,
+    segmenter: AnySegmenterBorrowed<'_>,
     bytes: &[u8],
     expected: &[(usize, char)],
 ) -> Result<bool, AllocError> {
@@ -85,7 +85,7 @@ fn agrees_in_utf8(
 
 fn agrees_in_utf16(
     alloc: Global,
-    segmenter: SegmenterBorrowed<'_>,
+    segmenter: AnySegmenterBorrowed<'_>,
     text: &str,
     expected: &[(usize, char)],
 ) -> Result<bool, AllocError> {
@@ -96,7 +96,7 @@ fn agrees_in_utf16(
 
 fn ordinals_in_units(
     alloc: Global,
-    segmenter: SegmenterBorrowed<'_>,
+    segmenter: AnySegmenterBorrowed<'_>,
     units: &[u16],
 ) -> Result<Found, AllocError> {
     let places: Vec<usize> = Utf16Indices::new(units).map(|item| item.0).collect(alloc)?;
@@ -107,7 +107,7 @@ fn ordinals_in_units(
 // True also where Latin-1 hasn't the text.
 fn agrees_in_latin1(
     alloc: Global,
-    segmenter: SegmenterBorrowed<'_>,
+    segmenter: AnySegmenterBorrowed<'_>,
     text: &str,
     expected: &[(usize, char)],
 ) -> Result<bool, AllocError> {

@@ -3,7 +3,7 @@
 use crate::options::Options;
 use crate::parts::{Kind, Parts, borrowed};
 use anyhow::Result;
-use bench::segmenter::SegmenterBorrowed;
+use bench::segmenter::AnySegmenterBorrowed;
 use icu_segmenter::options::{
     LineBreakOptions, SentenceBreakInvariantOptions, WordBreakInvariantOptions,
 };
@@ -14,15 +14,21 @@ use icu_segmenter::{
 };
 
 /// The segmenter over these parts.
-pub fn lend<'a>(parts: &'a Parts, kind: Kind, options: &Options) -> Result<SegmenterBorrowed<'a>> {
+pub fn lend<'a>(
+    parts: &'a Parts,
+    kind: Kind,
+    options: &Options,
+) -> Result<AnySegmenterBorrowed<'a>> {
     Ok(match kind {
-        Kind::NeoClusters | Kind::Clusters => SegmenterBorrowed::Clusters(clusters(parts, kind)?),
+        Kind::NeoClusters | Kind::Clusters => AnySegmenterBorrowed::Clusters(clusters(
+            parts, kind,
+        )?),
         Kind::NeoSentences | Kind::Sentences => {
-            SegmenterBorrowed::Sentences(sentences(parts, kind)?)
+            AnySegmenterBorrowed::Sentences(sentences(parts, kind)?)
         }
-        Kind::NeoWords | Kind::Words => SegmenterBorrowed::Words(words(parts, kind)?),
+        Kind::NeoWords | Kind::Words => AnySegmenterBorrowed::Words(words(parts, kind)?),
         Kind::NeoLines | Kind::Lines | Kind::Lines17 => {
-            SegmenterBorrowed::Lines(lines(parts, kind, options)?)
+            AnySegmenterBorrowed::Lines(lines(parts, kind, options)?)
         }
     })
 }

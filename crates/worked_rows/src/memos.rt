@@ -5,7 +5,7 @@ use crate::row::Row;
 use crate::samples::quoted;
 use anyhow::Result;
 use bench::found::push_word;
-use bench::segmenter::{SegmenterBorrowed, Text};
+use bench::segmenter::{AnySegmenterBorrowed, Text};
 use icu_segmenter::memo::{MemoBreakIterator, MemoError};
 use icu_segmenter::provider::SegmenterStateMachine;
 use icu_segmenter::rule_segmenter_v2::{CountedTransitions, ReadTransitions};
@@ -19,7 +19,7 @@ use std::alloc::{AllocError, Global};
 /// The boundaries of a `str` by the memo of its iterator, of which two were asked for before.
 pub fn memo_answer(
     alloc: Global,
-    segmenter: SegmenterBorrowed<'_>,
+    segmenter: AnySegmenterBorrowed<'_>,
     text: Text<'_>,
 ) -> Result<String> {
     let text = match text {
@@ -27,10 +27,10 @@ pub fn memo_answer(
         _ => "",
     };
     match segmenter {
-        SegmenterBorrowed::Clusters(clusters) => memo_of_clusters(alloc, clusters, text),
-        SegmenterBorrowed::Sentences(sentences) => memo_of_sentences(alloc, sentences, text),
-        SegmenterBorrowed::Words(words) => memo_of_words(alloc, words, text),
-        SegmenterBorrowed::Lines(lines) => memo_of_lines(alloc, lines, text),
+        AnySegmenterBorrowed::Clusters(clusters) => memo_of_clusters(alloc, clusters, text),
+        AnySegmenterBorrowed::Sentences(sentences) => memo_of_sentences(alloc, sentences, text),
+        AnySegmenterBorrowed::Words(words) => memo_of_words(alloc, words, text),
+        AnySegmenterBorrowed::Lines(lines) => memo_of_lines(alloc, lines, text),
     }
 }
 

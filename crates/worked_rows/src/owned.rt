@@ -4,26 +4,26 @@ use crate::data::both;
 use crate::options::Options;
 use crate::parts::{Kind, Parts, given};
 use anyhow::Result;
-use bench::segmenter::Segmenter;
+use bench::segmenter::AnySegmenter;
 use icu_segmenter::options::{SentenceBreakOptions, WordBreakOptions};
 use icu_segmenter::provider::RuleBreakData;
 use icu_segmenter::{GraphemeClusterSegmenter, LineSegmenter, SentenceSegmenter, WordSegmenter};
 use std::mem;
 
 /// The segmenter of these parts, which are gone then.
-pub fn own(parts: &mut Parts, kind: Kind, options: &Options) -> Result<Segmenter> {
+pub fn own(parts: &mut Parts, kind: Kind, options: &Options) -> Result<AnySegmenter> {
     match kind {
-        Kind::NeoClusters | Kind::Clusters => Ok(Segmenter::Clusters(clusters(parts, kind)?)),
+        Kind::NeoClusters | Kind::Clusters => Ok(AnySegmenter::Clusters(clusters(parts, kind)?)),
         Kind::NeoSentences | Kind::Sentences => {
-            Ok(Segmenter::Sentences(sentences(parts, kind, options)?))
+            Ok(AnySegmenter::Sentences(sentences(parts, kind, options)?))
         }
         Kind::NeoWords | Kind::Words => {
             let words = words(parts, kind)?;
-            Ok(Segmenter::Words(loaded_words(words, parts)))
+            Ok(AnySegmenter::Words(loaded_words(words, parts)))
         }
         Kind::NeoLines | Kind::Lines | Kind::Lines17 => {
             let lines = lines(parts, kind, options)?;
-            Ok(Segmenter::Lines(loaded_lines(lines, parts)))
+            Ok(AnySegmenter::Lines(loaded_lines(lines, parts)))
         }
     }
 }

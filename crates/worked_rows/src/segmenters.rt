@@ -14,7 +14,7 @@ use crate::row::Row;
 use crate::samples::Sample;
 use crate::wrapped::wrapped_answer;
 use anyhow::{Result, bail};
-use bench::segmenter::{SegmenterBorrowed, Text};
+use bench::segmenter::{AnySegmenterBorrowed, Text};
 use icu_segmenter::{
     GraphemeClusterSegmenterBorrowed, LineSegmenterBorrowed, WordSegmenterBorrowed,
 };
@@ -84,7 +84,7 @@ fn answer(
     alloc: Global,
     row: Row<'_>,
     manner: Manner,
-    segmenter: SegmenterBorrowed<'_>,
+    segmenter: AnySegmenterBorrowed<'_>,
 ) -> Result<String> {
     let sample = Sample::of(alloc, row)?;
     answer_of(alloc, row, manner, segmenter, sample.text())
@@ -94,7 +94,7 @@ fn answer_of(
     alloc: Global,
     row: Row<'_>,
     manner: Manner,
-    segmenter: SegmenterBorrowed<'_>,
+    segmenter: AnySegmenterBorrowed<'_>,
     text: Text<'_>,
 ) -> Result<String> {
     let answer = match manner {
@@ -111,10 +111,10 @@ fn answer_of(
 }
 
 // How an iterator of words or lines is shown: the name before its fields.
-fn shown_answer(alloc: Global, segmenter: SegmenterBorrowed<'_>) -> Result<String, AllocError> {
+fn shown_answer(alloc: Global, segmenter: AnySegmenterBorrowed<'_>) -> Result<String, AllocError> {
     match segmenter {
-        SegmenterBorrowed::Words(words) => shown_words(alloc, words),
-        SegmenterBorrowed::Lines(lines) => shown_lines(alloc, lines),
+        AnySegmenterBorrowed::Words(words) => shown_words(alloc, words),
+        AnySegmenterBorrowed::Lines(lines) => shown_lines(alloc, lines),
         _ => Ok(String::new(alloc)),
     }
 }
@@ -145,7 +145,7 @@ fn name_in(shown: &str) -> &str {
 // Whether the boundaries of all short texts are at equal ordinals in all encodings, or the first text of which they aren't.
 fn short_texts_answer(
     alloc: Global,
-    segmenter: SegmenterBorrowed<'_>,
+    segmenter: AnySegmenterBorrowed<'_>,
 ) -> Result<String, AllocError> {
     for number in 0..SHORT_TEXTS {
         if let Some(text) = other_text(alloc, segmenter, number)? {
@@ -158,7 +158,7 @@ fn short_texts_answer(
 // The short text of this number, if its boundaries aren't at equal ordinals in all encodings.
 fn other_text(
     alloc: Global,
-    segmenter: SegmenterBorrowed<'_>,
+    segmenter: AnySegmenterBorrowed<'_>,
     number: usize,
 ) -> Result<Option<String>, AllocError> {
     let text = short_text(alloc, number)?;

@@ -3,7 +3,7 @@
 use crate::row::Row;
 use crate::samples::quoted;
 use anyhow::{Result, bail};
-use bench::segmenter::SegmenterBorrowed;
+use bench::segmenter::AnySegmenterBorrowed;
 use icu_segmenter::wrap::{LineWrapper, WrapIterator, WrapUtf8Iterator};
 use std::alloc::{AllocError, Global};
 
@@ -12,10 +12,10 @@ use std::alloc::{AllocError, Global};
 pub fn wrapped_answer(
     alloc: Global,
     row: Row<'_>,
-    segmenter: SegmenterBorrowed<'_>,
+    segmenter: AnySegmenterBorrowed<'_>,
 ) -> Result<String> {
     match segmenter {
-        SegmenterBorrowed::Lines(lines) => wrapped_in(alloc, row, LineWrapper::new(lines)?),
+        AnySegmenterBorrowed::Lines(lines) => wrapped_in(alloc, row, LineWrapper::new(lines)?),
         _ => bail!("no segmenter of lines"),
     }
 }

@@ -1,7 +1,7 @@
 //! Grapheme clusters: the parts of the pair table, by UAX #29.
 // Written by generate/generate.py from the rows of Unicode 18.0 and of the rules in specs/. Do not edit.
 
-use crate::parts::{BREAK, KEEP, Numbers};
+use crate::parts::{BREAK, KEEP, TableNumbers};
 use icu_segmenter::provider::BreakState::{self, Index};
 
 /// The code points of each class; others have OTHER_CLASS.
@@ -434,7 +434,7 @@ pub(crate) static ENTRIES: [BreakState; 625] = [
 ];
 
 /// The numbers of classes.
-pub(super) const NUMBERS: Numbers = Numbers {
+pub(super) const NUMBERS: TableNumbers = TableNumbers {
     count: 25,
     last: 19,
     start_of_text: 20,

@@ -1,7 +1,7 @@
 //! Lines: the parts of the pair table, by UAX #14.
 // Written by generate/generate.py from the rows of Unicode 18.0 and of the rules in specs/. Do not edit.
 
-use crate::parts::{BREAK, KEEP, NO_MATCH, Numbers};
+use crate::parts::{BREAK, KEEP, NO_MATCH, TableNumbers};
 use icu_segmenter::provider::BreakState::{self, Index, Intermediate};
 
 /// The code points of each class; others have OTHER_CLASS.
@@ -1289,7 +1289,7 @@ pub(crate) static ENTRIES: [BreakState; 7744] = [
 ];
 
 /// The numbers of classes.
-pub(super) const NUMBERS: Numbers = Numbers {
+pub(super) const NUMBERS: TableNumbers = TableNumbers {
     count: 88,
     last: 67,
     start_of_text: 68,

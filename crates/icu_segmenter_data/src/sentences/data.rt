@@ -1,7 +1,7 @@
 //! Sentences: the parts of the pair table, by UAX #29.
 // Written by generate/generate.py from the rows of Unicode 18.0 and of the rules in specs/. Do not edit.
 
-use crate::parts::{BREAK, KEEP, NO_MATCH, Numbers};
+use crate::parts::{BREAK, KEEP, NO_MATCH, TableNumbers};
 use icu_segmenter::provider::BreakState::{self, Index, Intermediate};
 
 /// The code points of each class; others have OTHER_CLASS.
@@ -603,7 +603,7 @@ pub(crate) static ENTRIES: [BreakState; 529] = [
 ];
 
 /// The numbers of classes.
-pub(super) const NUMBERS: Numbers = Numbers {
+pub(super) const NUMBERS: TableNumbers = TableNumbers {
     count: 23,
     last: 15,
     start_of_text: 16,

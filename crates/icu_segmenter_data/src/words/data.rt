@@ -1,7 +1,7 @@
 //! Words: the parts of the pair table, by UAX #29.
 // Written by generate/generate.py from the rows of Unicode 18.0 and of the rules in specs/. Do not edit.
 
-use crate::parts::{BREAK, KEEP, NO_MATCH, Numbers};
+use crate::parts::{BREAK, KEEP, NO_MATCH, TableNumbers};
 use icu_segmenter::provider::BreakState::{self, Index, Intermediate};
 
 /// The code points of each class; others have OTHER_CLASS.
@@ -488,7 +488,7 @@ pub(crate) static STATUSES: [u8; 41] = [
 ];
 
 /// The numbers of classes.
-pub(super) const NUMBERS: Numbers = Numbers {
+pub(super) const NUMBERS: TableNumbers = TableNumbers {
     count: 42,
     last: 23,
     start_of_text: 24,

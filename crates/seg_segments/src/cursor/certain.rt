@@ -6,7 +6,7 @@ ghost use Rattle.seg_segments.specs.NearBoundaries.{MayBegin, places_of_units};
 ghost use Rattle.seg_segments.specs.TextSegments.{IsPlace};
 
 use crate::cursor::line_starts::line_start;
-use crate::cursor::{CursorText, Segmenter};
+use crate::cursor::{BoundaryFinder, CursorText};
 use crate::segments::Source;
 use seg_text::cursor::Cursor;
 
@@ -14,7 +14,7 @@ use seg_text::cursor::Cursor;
 const NEAR: usize = 64;
 
 /// A place up to another one where the text may be cut: not far before it, if one is known there, and else the start.
-pub(super) fn start_before<T: CursorText, S: Segmenter>(
+pub(super) fn start_before<T: CursorText, S: BoundaryFinder>(
     segmenter: &S,
     text: T,
     has_parts: bool,
@@ -36,7 +36,7 @@ pub(super) fn start_before<T: CursorText, S: Segmenter>(
 }
 
 /// Such a place from another one on, if one is known there.
-fn start_in<T: CursorText, S: Segmenter>(
+fn start_in<T: CursorText, S: BoundaryFinder>(
     segmenter: &S,
     text: T,
     has_parts: bool,
@@ -69,7 +69,7 @@ fn item_start<T: CursorText>(text: T, place: usize) -> usize
 }
 
 /// The last certain place up to another place, as the items tell that stand from one of them on, if there is one.
-fn certain_place<T: CursorText, S: Segmenter>(
+fn certain_place<T: CursorText, S: BoundaryFinder>(
     segmenter: &S,
     text: T,
     from: usize,

@@ -3,12 +3,12 @@
 ghost use Rattle.seg_clusters.specs.Clusters.{cluster_rules};
 ghost use Rattle.seg_clusters.specs.Rules.{boundaries_by};
 
-use crate::cursor::{Segmenter, SegmenterOf};
+use crate::cursor::{BoundaryFinder, SegmenterOf};
 use crate::segments::Source;
 use seg_clusters::grapheme::{GraphemeClusterBreakIterator, GraphemeClusterSegmenterBorrowed};
 use seg_clusters::laws::grapheme::{certain_places, parts_behind_resets, restart};
 
-impl<'data> Segmenter for GraphemeClusterSegmenterBorrowed<'data> {
+impl<'data> BoundaryFinder for GraphemeClusterSegmenterBorrowed<'data> {
     ghost find = { λ segmenter. boundaries_by (cluster_rules segmenter) };
 
     fn parts_behind_line_feeds(&self) -> bool {

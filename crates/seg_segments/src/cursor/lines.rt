@@ -3,12 +3,12 @@
 ghost use Rattle.seg_lines.specs.LineBreaks.{line_boundaries_by};
 ghost use Rattle.seg_lines.specs.Lines.{line_rules};
 
-use crate::cursor::{Segmenter, SegmenterOf};
+use crate::cursor::{BoundaryFinder, SegmenterOf};
 use crate::segments::Source;
 use seg_lines::laws::{certain_places, parts_behind_resets, restart};
 use seg_lines::line::{LineBreakIterator, LineSegmenterBorrowed};
 
-impl<'data> Segmenter for LineSegmenterBorrowed<'data> {
+impl<'data> BoundaryFinder for LineSegmenterBorrowed<'data> {
     ghost find = { λ segmenter. line_boundaries_by (line_rules segmenter) };
 
     fn parts_behind_line_feeds(&self) -> bool {

@@ -3,12 +3,12 @@
 ghost use Rattle.seg_clusters.specs.Clusters.{sentence_rules};
 ghost use Rattle.seg_clusters.specs.Rules.{boundaries_by};
 
-use crate::cursor::{Segmenter, SegmenterOf};
+use crate::cursor::{BoundaryFinder, SegmenterOf};
 use crate::segments::Source;
 use seg_clusters::laws::sentence::{certain_places, parts_behind_resets, restart};
 use seg_clusters::sentence::{SentenceBreakIterator, SentenceSegmenterBorrowed};
 
-impl<'data> Segmenter for SentenceSegmenterBorrowed<'data> {
+impl<'data> BoundaryFinder for SentenceSegmenterBorrowed<'data> {
     ghost find = { λ segmenter. boundaries_by (sentence_rules segmenter) };
 
     fn parts_behind_line_feeds(&self) -> bool {

@@ -2,13 +2,13 @@
 
 ghost use Rattle.seg_segments.specs.Suppressing.{suppressing_finder};
 
-use crate::cursor::{Segmenter, SegmenterOf};
+use crate::cursor::{BoundaryFinder, SegmenterOf};
 use crate::segments::Source;
 use crate::suppress::laws::parts_behind_line_feeds;
 use crate::suppress::{SuppressedBreaks, SuppressingSegmenter};
 use seg_clusters::sentence::SentenceBreakIterator;
 
-impl<'data> Segmenter for SuppressingSegmenter<'data> {
+impl<'data> BoundaryFinder for SuppressingSegmenter<'data> {
     ghost find = { λ segmenter. suppressing_finder segmenter };
 
     fn parts_behind_line_feeds(&self) -> bool {

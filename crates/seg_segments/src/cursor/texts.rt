@@ -6,7 +6,7 @@ ghost use Rattle.seg_clusters.specs.Rules.{PartsBehind};
 ghost use Rattle.seg_segments.specs.NearBoundaries.{boundaries_of_units, line_feed};
 ghost use Rattle.seg_segments.specs.TextSegments.{IsPlace};
 
-use crate::cursor::Segmenter;
+use crate::cursor::BoundaryFinder;
 use crate::segments::{Source, Units};
 use seg_text::indices::{Utf8CharIndices, Utf16Indices};
 
@@ -17,7 +17,7 @@ pub trait CursorText: Units {
 
     /// Whether each text of this form may be split after its line feeds, so that each part has the boundaries that a segmenter finds
     /// in it alone. If `false`, nothing is said.
-    fn has_parts<S: Segmenter>(segmenter: &S) -> bool
+    fn has_parts<S: BoundaryFinder>(segmenter: &S) -> bool
         ensures { IsTrue result → PartsBehind (boundaries_of_units Self.Source.decode (S.find segmenter.now)) line_feed };
 
     /// Whether the unit at an index is a line feed.
@@ -40,7 +40,7 @@ pub trait CursorText: Units {
 impl<'s> CursorText for &'s [u8] {
     type Source = Utf8CharIndices<'s>;
 
-    fn has_parts<S: Segmenter>(segmenter: &S) -> bool
+    fn has_parts<S: BoundaryFinder>(segmenter: &S) -> bool
         ensures { IsTrue result → PartsBehind (boundaries_of_units utf8 (S.find segmenter.now)) line_feed }
     {
         segmenter.parts_behind_line_feeds()
@@ -64,7 +64,7 @@ impl<'s> CursorText for &'s [u8] {
 impl<'s> CursorText for &'s [u16] {
     type Source = Utf16Indices<'s>;
 
-    fn has_parts<S: Segmenter>(segmenter: &S) -> bool
+    fn has_parts<S: BoundaryFinder>(segmenter: &S) -> bool
         ensures { IsTrue result → PartsBehind (boundaries_of_units utf16 (S.find segmenter.now)) line_feed }
     {
         segmenter.parts_behind_line_feeds()

@@ -3,12 +3,12 @@
 ghost use Rattle.seg_words.specs.Words.{word_rules};
 ghost use Rattle.seg_words.specs.WordRules.{word_boundaries_by};
 
-use crate::cursor::{Segmenter, SegmenterOf};
+use crate::cursor::{BoundaryFinder, SegmenterOf};
 use crate::segments::Source;
 use seg_words::laws::{certain_places, parts_behind_resets, restart};
 use seg_words::word::{WordBreakIterator, WordSegmenterBorrowed};
 
-impl<'data> Segmenter for WordSegmenterBorrowed<'data> {
+impl<'data> BoundaryFinder for WordSegmenterBorrowed<'data> {
     ghost find = { λ segmenter. word_boundaries_by (word_rules segmenter) };
 
     fn parts_behind_line_feeds(&self) -> bool {

@@ -4,7 +4,7 @@ use Rattle.icu_segmenter.specs.LineBreaks.{LineRules, lines_with_words}
 use Rattle.icu_segmenter.specs.Lines.{without_ja}
 use Rattle.icu_segmenter.specs.ScriptWords.{ScriptWords, filled, no_words, script_words}
 use Rattle.icu_segmenter.specs.declared.options.LineBreakOptions.{LineBreakOptions}
-use Rattle.segment_output.specs.Segmenter.{line_rules_of}
+use Rattle.segment_output.specs.TextSegmenter.{line_rules_of}
 use Rattle.segment_output.specs.declared.segmenter.Engine.{Engine}
 use Rattle.segment_output.specs.declared.segmenter.Engine.TheVariants.{Neo, Classic, Seventeen}
 use Rattle.segment_output.proofs.segmenter.line_segmenter.Goals as goal

@@ -9,7 +9,7 @@ abbrev pub invariant-loop-found : goal.invariant-loop-found
 invariant-loop-found g l = record {
   ascends : Ascends None (offsets (g.Self.Breaks.BreakIterator.left l.breaks)) (length (g.I.Units.Units.units l.fn.text));
   nearest : (nearest : Option ℕ) → IsNearestAbove (offsets (g.Self.Breaks.BreakIterator.left l.breaks)) l.place nearest
-      → IsNearestAbove (places_of_units g.I.Source.decode (g.Self.Segmenter.find l.self) (g.I.Units.Units.units l.fn.text)) l.place nearest;
+      → IsNearestAbove (places_of_units g.I.Source.decode (g.Self.BoundaryFinder.find l.self) (g.I.Units.Units.units l.fn.text)) l.place nearest;
 }
 
 abbrev pub decreases-loop-found : goal.decreases-loop-found

@@ -11,7 +11,7 @@ invariant-loop-found g l = record {
   ascends : Ascends l.nearest (offsets (g.Self.Breaks.BreakIterator.left l.breaks)) (length (g.I.Units.Units.units l.fn.text));
   below : IfSome l.nearest (λ last. last < l.place);
   nearest : (nearest : Option ℕ) → IsNearestBelow (cons_option l.nearest (offsets (g.Self.Breaks.BreakIterator.left l.breaks))) l.place nearest
-      → IsNearestBelow (places_of_units g.I.Source.decode (g.Self.Segmenter.find l.self) (g.I.Units.Units.units l.fn.text)) l.place nearest;
+      → IsNearestBelow (places_of_units g.I.Source.decode (g.Self.BoundaryFinder.find l.self) (g.I.Units.Units.units l.fn.text)) l.place nearest;
 }
 
 abbrev pub decreases-loop-found : goal.decreases-loop-found

@@ -9,7 +9,7 @@ abbrev pub invariant-loop-at : goal.invariant-loop-at
 invariant-loop-at g l = record {
   read : ReadsTwo (g.T.Source.Source.decode (g.T.Units.units l.fn.text)) l.before l.one (g.T.Source.Cursor.text l.items);
   order : IfSome l.found (λ (found : ℕ). found ≤ l.place);
-  certain : IfSome l.found (Contains (places_of_units g.T.Source.Source.decode (g.S.Segmenter.find l.segmenter) (g.T.Units.units l.fn.text)));
+  certain : IfSome l.found (Contains (places_of_units g.T.Source.Source.decode (g.S.BoundaryFinder.find l.segmenter) (g.T.Units.units l.fn.text)));
 }
 
 abbrev pub decreases-loop-at : goal.decreases-loop-at

@@ -33,15 +33,15 @@ use Rattle.segment_output.specs.declared.segmenter.Kind.{Kind}
 use Rattle.segment_output.specs.declared.segmenter.Kind.TheVariants as kind
 use Rattle.segment_output.specs.declared.marks.Mark.{Mark}
 use Rattle.segment_output.specs.declared.marks.Mark.TheVariants.{Unmarked, Word, Line, Rule}
-use Rattle.segment_output.specs.declared.segmenter.Segmenter.{Segmenter}
-use Rattle.segment_output.specs.declared.segmenter.Segmenter.TheVariants.{Clusters, Words, Sentences, Suppressing, Lines, Ruled}
+use Rattle.segment_output.specs.declared.segmenter.TextSegmenter.{TextSegmenter}
+use Rattle.segment_output.specs.declared.segmenter.TextSegmenter.TheVariants.{Clusters, Words, Sentences, Suppressing, Lines, Ruled}
 
 -- how sentences are found in a list of code points by some rules, where they go on after abbreviations
 abbrev pub suppressed_finder : Rules → WordSet → List ℕ → List Boundary
 suppressed_finder rules abbreviations = without_abbreviated abbreviations (found_by rules)
 
 -- the boundaries of some bytes, which are seen as UTF-8
-abbrev pub boundaries_by : Segmenter → List ℕ → List Boundary
+abbrev pub boundaries_by : TextSegmenter → List ℕ → List Boundary
 boundaries_by (Clusters clusters) bytes = boundaries_of (owned_cluster_rules clusters) (utf8 bytes)
 boundaries_by (Words words alone) bytes = word_boundaries_of (owned_word_rules words) (utf8 bytes)
 boundaries_by (Sentences sentences) bytes = boundaries_of (owned_sentence_rules sentences) (utf8 bytes)
@@ -51,20 +51,20 @@ boundaries_by (Ruled machine alone) bytes = boundaries_of (ByMachine machine) (u
 
 -- what their statuses say of the segments that end there: of words their type, of lines whether a line must end there, by rules of the caller's
 -- own whether they are 1, and of others nothing
-abbrev pub mark_by : Segmenter → ℕ → Mark
+abbrev pub mark_by : TextSegmenter → ℕ → Mark
 mark_by (Words words alone) = λ status. Word (type_of status)
 mark_by (Lines lines) = λ status. Line (status == 1)
 mark_by (Ruled machine alone) = λ status. Rule (status == 1)
 mark_by segmenter = λ status. Unmarked
 
 -- are words alone shown, or by rules of the caller's own what ends at boundaries without status 1
-abbrev pub has_words_alone : Segmenter → Bool
+abbrev pub has_words_alone : TextSegmenter → Bool
 has_words_alone (Words words alone) = alone
 has_words_alone (Ruled machine alone) = alone
 has_words_alone segmenter = false
 
 -- the segments of such bytes
-abbrev pub segments_by : Segmenter → List ℕ → List Segment
+abbrev pub segments_by : TextSegmenter → List ℕ → List Segment
 segments_by segmenter bytes = segments (has_words_alone segmenter) (marked (mark_by segmenter) (boundaries_by segmenter bytes))
 
 -- where a line may end anywhere: at each boundary of a machine, with its status
@@ -99,7 +99,7 @@ abbrev pub line_rules_by : Engine → LineBreakOptions → ScriptWords → LineR
 line_rules_by engine options words = lines_with_words (line_rules_of engine options) (without_ja words)
 
 -- a segmenter is that of a kind: by an engine over Unicode's data, with options of lines, the words of scripts, and abbreviations, if there are some
-abbrev pub IsAskedOf : Kind → Engine → LineBreakOptions → ScriptWords → Option WordSet → Segmenter → Type 0
+abbrev pub IsAskedOf : Kind → Engine → LineBreakOptions → ScriptWords → Option WordSet → TextSegmenter → Type 0
 IsAskedOf asked engine options words abbreviations (Clusters clusters) = (asked ≡ kind.Clusters) × (owned_cluster_rules clusters ≡ cluster_rules_by engine)
 IsAskedOf asked engine options words abbreviations (Words segmenter alone) = (asked ≡ kind.Words alone) × (owned_word_rules segmenter ≡ word_rules_by engine words)
 IsAskedOf asked engine options words abbreviations (Sentences sentences) =

@@ -1,5 +1,5 @@
 use Rattle.seg_segments.proofs.Parts.{feeds-utf8, feeds-utf16}
-use Rattle.seg_segments.proofs.cursor.sentences.SentenceSegmenterBorrowedSegmenter.parts_behind_line_feeds.Goals as goal
+use Rattle.seg_segments.proofs.cursor.lines.LineSegmenterBorrowedBoundaryFinder.parts_behind_line_feeds.Goals as goal
 
 pub returns-clause-utf8 : goal.returns-clause-utf8
 returns-clause-utf8 c is = feeds-utf8 _ (c.parts_behind_resets.ensures (c.resets_after.ensures.0 is))

@@ -3,7 +3,7 @@ use Rattle.std.proofs.Common.{ℕ, List, length, ap, subst, ◌∙◌}
 use Rattle.icu_segmenter.specs.Boundary.{Boundary}
 use Rattle.icu_segmenter.specs.Boundaries.{boundaries_in, IsCover}
 use Rattle.icu_segmenter.specs.Decoding.{utf8}
-use Rattle.segment_output.proofs.segmenter.Segmenter.cover.Goals as goal
+use Rattle.segment_output.proofs.segmenter.TextSegmenter.cover.Goals as goal
 
 pub returns-in-Suppressing : goal.returns-in-Suppressing
 returns-in-Suppressing c =

@@ -6,7 +6,7 @@ use Rattle.icu_segmenter.specs.Decoding.{utf8}
 use Rattle.icu_segmenter.specs.LineBreaks.{LineRules, line_boundaries_of}
 use Rattle.icu_segmenter.specs.NearBoundaries.{line_feed}
 use Rattle.icu_segmenter.specs.Rules.{PartsBehind}
-use Rattle.segment_output.proofs.segmenter.Segmenter.has_parts.Goals as goal
+use Rattle.segment_output.proofs.segmenter.TextSegmenter.has_parts.Goals as goal
 
 pub returns-in-Suppressing : goal.returns-in-Suppressing
 returns-in-Suppressing c =
