@@ -35,12 +35,12 @@ fn main(rt: HostRuntime) -> ExitCode {
 fn start(rt: &HostRuntime, words: &[&str]) -> u8
     ensures usage { result ≡ 2 ↔ IsNoRequest (texts words.now) }
 {
-    if request_of(words).is_none() {
+    let Some(request) = request_of(words) else {
         return Failure::Usage.report(&mut rt.stderr());
-    }
+    };
     let alloc = rt.alloc();
     match BufWriter::with_capacity(alloc, OUTPUT_CAPACITY, rt.stdout()) {
-        Ok(mut out) => run::run(alloc, words, &mut rt.stdin(), &mut out, &mut rt.stderr()),
+        Ok(mut out) => run::run(alloc, request, &mut rt.stdin(), &mut out, &mut rt.stderr()),
         Err(_) => Failure::NoMemory.report(&mut rt.stderr()),
     }
 }

@@ -15,16 +15,15 @@ ghost use Rattle.icu_segmenter.specs.WordRules.{word_boundaries_of};
 ghost use Rattle.textcut.specs.Command.{texts, places_of, sample_lines};
 ghost use Rattle.textcut.specs.Failure.{status_of, message_of, AppendsBeginning};
 ghost use Rattle.textcut.specs.Lines.{lines_of};
-ghost use Rattle.textcut.specs.Request.{HasWords, IsNoRequest, IsReadable, output_of};
+ghost use Rattle.textcut.specs.Request.{IsReadable, output_of};
 ghost use Rattle.textcut.specs.Wrapped.{printed_lines};
 ghost use Rattle.icu_segmenter.specs.WrappedLines.{lines_to_come};
 ghost use Rattle.textcut.specs.declared.failure.Failure.{Failure as AnyFailure};
-ghost use Rattle.textcut.specs.declared.request.Request.{Request as AnyRequest};
 
 use crate::command::Command;
 use crate::failure::{Failure, PrintFailure};
 use crate::lines::print_lines;
-use crate::request::{Request, request_of};
+use crate::request::Request;
 use crate::wrapped::print_wrapped;
 use bench::clusters::cluster_machine;
 use bench::dictionaries::dictionaries;
@@ -46,33 +45,27 @@ use std::alloc::{AllocError, Global};
 use std::io::{ErrorKind, Read, Write};
 use std::str;
 
-/// Prints the boundaries of the text that a reader gives, or its lines, as the words ask. Returns the exit status: 0; 1 where memory, the
-/// reader or the writer failed, or the text isn't what is asked for; 2 where the words are no request's.
+/// Prints the boundaries of the text that a reader gives, or its lines, as a request asks. Returns the exit status: 0; 1 where memory, the
+/// reader or the writer failed, or the text isn't what is asked for.
 pub fn run<I: Read, O: Write, E: Write>(
     alloc: Global,
-    words: &[&str],
+    request: Request,
     input: &mut I,
     out: &mut O,
     err: &mut E,
 ) -> u8
-    ensures range { result ≤ 2 }
-    ensures usage { result ≡ 2 ↔ IsNoRequest (texts words.now) }
-    ensures unread { result ≡ 2 → input.new ≡ input.old }
-    ensures unwritten { result ≡ 2 → out.new ≡ out.old }
+    ensures range { result ≤ 1 }
     ensures read_all { result ≡ 0 → IsAtEnd (I.remaining input.new) }
-    ensures readable { result ≡ 0 → (request : AnyRequest) → HasWords request (texts words.now)
-        → IfSome (I.remaining input.old) (IsReadable request) }
-    ensures printed { result ≡ 0 → (request : AnyRequest) → HasWords request (texts words.now)
-        → IfSome (I.remaining input.old) (λ bytes.
+    ensures readable { result ≡ 0 → IfSome (I.remaining input.old) (IsReadable request) }
+    ensures printed { result ≡ 0 → IfSome (I.remaining input.old) (λ bytes.
         Appends (O.contents out.old) (O.contents out.new) (output_of request bytes)) }
     ensures silent { result ≡ 0 → err.new ≡ err.old }
     ensures failed { result ≢ 0 → (failure : AnyFailure) × (status_of failure ≡ result)
         × AppendsBeginning (E.contents err.old) (E.contents err.new) (message_of failure)
         × (failure ≢ Failure.WriteFailed → out.new ≡ out.old)
-        × (failure ≡ Failure.NotUtf8 → (request : AnyRequest) × HasWords request (texts words.now)
-        × IfSome (I.remaining input.old) (λ bytes. IsReadable request bytes → ⊥)) }
+        × (failure ≡ Failure.NotUtf8 → IfSome (I.remaining input.old) (λ bytes. IsReadable request bytes → ⊥)) }
 {
-    match try_run(alloc, words, input, out) {
+    match try_run(alloc, request, input, out) {
         Ok(()) => 0,
         Err(failure) => failure.report(err),
     }
@@ -80,23 +73,18 @@ pub fn run<I: Read, O: Write, E: Write>(
 
 fn try_run<I: Read, O: Write>(
     alloc: Global,
-    words: &[&str],
+    request: Request,
     input: &mut I,
     out: &mut O,
 ) -> Result<(), Failure>
-    ensures usage { IsErrOf result Failure.Usage ↔ IsNoRequest (texts words.now) }
-    ensures unread { IsErrOf result Failure.Usage → input.new ≡ input.old }
+    ensures cause { result ≢ Err Failure.Usage }
     ensures unwritten { IfErr result (λ failure. failure ≢ Failure.WriteFailed → out.new ≡ out.old) }
     ensures read_all { OnOk result (IsAtEnd (I.remaining input.new)) }
-    ensures readable { OnOk result ((request : AnyRequest) → HasWords request (texts words.now)
-        → IfSome (I.remaining input.old) (IsReadable request)) }
-    ensures unreadable { IsErrOf result Failure.NotUtf8 → (request : AnyRequest) × HasWords request (texts words.now)
-        × IfSome (I.remaining input.old) (λ bytes. IsReadable request bytes → ⊥) }
-    ensures printed { OnOk result ((request : AnyRequest) → HasWords request (texts words.now)
-        → IfSome (I.remaining input.old) (λ bytes.
+    ensures readable { OnOk result (IfSome (I.remaining input.old) (IsReadable request)) }
+    ensures unreadable { IsErrOf result Failure.NotUtf8 → IfSome (I.remaining input.old) (λ bytes. IsReadable request bytes → ⊥) }
+    ensures printed { OnOk result (IfSome (I.remaining input.old) (λ bytes.
         Appends (O.contents out.old) (O.contents out.new) (output_of request bytes))) }
 {
-    let request = request_of(words).ok_or(Failure::Usage)?;
     let text = read_text(alloc, input)?;
     print_answer(alloc, request, text.as_slice(), out)
 }
