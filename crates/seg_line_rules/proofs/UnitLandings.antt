@@ -4,6 +4,7 @@ use Rattle.std.proofs.lemmas.List.{drop-map}
 use Rattle.seg_pairs.specs.declared.provider.pairs.BreakState.{BreakState}
 use Rattle.seg_pairs.specs.declared.provider.pairs.BreakState.TheVariants.{Break as BreakEntry, Keep, NoMatch, Intermediate, Index}
 use Rattle.seg_pairs.specs.PairTable.{named_state, PairTable, entry_of}
+use Rattle.seg_pairs.specs.declared.walk.Stop.{Stop}
 use Rattle.seg_pairs.specs.declared.verdicts.Step.{Step}
 use Rattle.seg_pairs.specs.declared.verdicts.Step.TheVariants.{End, Go}
 use Rattle.seg_pairs.specs.Elements.{classes_of, onto}
@@ -34,9 +35,9 @@ lands-unless : (b : Bool) (n : ℕ) (elements : List UnitElement) (next : UnitEl
 lands-unless true n elements next left is = is
 lands-unless false n elements next left is = (refl, is)
 
-module _ (t : PairTable) (start : ℕ) (left right : UnitElement) (after : List UnitElement) (state : ℕ) (entry : BreakState)
-    (before : UnitElement) (next : Option UnitElement) (rest : List UnitElement) (saved_before saved : UnitElement) (saved_rest : List UnitElement) (class : ℕ)
-    (stop : IsStop t start (left ∷ right ∷ after) state entry before next rest saved_before saved saved_rest class) where
+-- what the stop of a walk from `left` and `right` says
+module _ {E : Type 0} (left_of : E → List UnitElement) (t : PairTable) (start : ℕ) (left right : UnitElement) (after : List UnitElement) (stop : Stop E UnitDetail)
+    (rest : List UnitElement) (at : IsStop left_of t start (left ∷ right ∷ after) stop rest) where
   abbrev es : List UnitElement
   es = left ∷ right ∷ after
 
@@ -46,38 +47,38 @@ module _ (t : PairTable) (start : ℕ) (left right : UnitElement) (after : List 
   abbrev w : Walk
   w = walk_of t start es
 
-  abbrev at-rest : drop w.stop es ≡ onto next rest
-  at-rest = rest-at t start left right after state entry before next rest saved_before saved saved_rest class stop
+  abbrev at-rest : drop w.stop es ≡ onto stop.next rest
+  at-rest = rest-at left_of t start left right after stop rest at
 
-  abbrev at-saved : drop w.saved es ≡ saved ∷ saved_rest
-  at-saved = saved-at t start left right after state entry before next rest saved_before saved saved_rest class stop
+  abbrev at-saved : drop w.saved es ≡ stop.saved ∷ left_of stop.saved_rest
+  at-saved = saved-at left_of t start left right after stop rest at
 
-  joined-stop : joined_before us w.stop ≡ before.detail.is_joined
-  joined-stop = joined-at es stop.passed w.stop before (onto next rest) stop.stops stop.left_after
+  joined-stop : joined_before us w.stop ≡ stop.before.detail.is_joined
+  joined-stop = joined-at es at.passed w.stop stop.before (onto stop.next rest) at.stops at.left_after
 
-  joined-saved : joined_before us w.saved ≡ saved_before.detail.is_joined
-  joined-saved = joined-at es stop.saved_passed w.saved saved_before (saved ∷ saved_rest) stop.saves stop.saved_after
+  joined-saved : joined_before us w.saved ≡ stop.saved_before.detail.is_joined
+  joined-saved = joined-at es at.saved_passed w.saved stop.saved_before (stop.saved ∷ left_of stop.saved_rest) at.saves at.saved_after
 
   named-is : unit_named_verdict t start (unit_seen left) us ≡ unit_walk_verdict t start us w (drop w.stop us)
   unfolding unit_named_verdict
   named-is =
       ap (λ (classes : List ℕ). let w = walk_from t start left.class classes in unit_walk_verdict t start us w (drop w.stop us)) (seen-classes after)
 
-  verdict-next : (element : UnitElement) → next ≡ Some element → unit_named_verdict t start (unit_seen left) us ≡ unit_stop_verdict t start us w entry
+  verdict-next : (element : UnitElement) → stop.next ≡ Some element → unit_named_verdict t start (unit_seen left) us ≡ unit_stop_verdict t start us w stop.entry
   verdict-next element is =
       let there : drop w.stop us ≡ unit_seen element ∷ units_seen rest = drop-map unit_seen w.stop es ∙ ap units_seen (at-rest ∙ ap (λ n. onto n rest) is) in
       named-is
       ∙ ap (unit_walk_verdict t start us w) there
-      ∙ ap (λ q. unit_stop_verdict t start us w (entry_of t q element.class)) stop.in_state
-      ∙ ap (unit_stop_verdict t start us w) (sym (stop.at_entry ∙ ap (λ n. entry_of t state (class_at t n)) is))
+      ∙ ap (λ q. unit_stop_verdict t start us w (entry_of t q element.class)) at.in_state
+      ∙ ap (unit_stop_verdict t start us w) (sym (at.at_entry ∙ ap (λ n. entry_of t stop.state (class_at t n)) is))
 
-  verdict-end : next ≡ None → unit_named_verdict t start (unit_seen left) us ≡ unit_end_verdict t start us w entry
+  verdict-end : stop.next ≡ None → unit_named_verdict t start (unit_seen left) us ≡ unit_end_verdict t start us w stop.entry
   verdict-end is =
-      let there : drop w.stop us ≡ [] = drop-map unit_seen w.stop es ∙ ap units_seen (at-rest ∙ ap (λ n. onto n rest) is ∙ stop.at_end is) in
+      let there : drop w.stop us ≡ [] = drop-map unit_seen w.stop es ∙ ap units_seen (at-rest ∙ ap (λ n. onto n rest) is ∙ at.at_end is) in
       named-is
       ∙ ap (unit_walk_verdict t start us w) there
-      ∙ ap (λ q. unit_end_verdict t start us w (entry_of t q t.eot_property)) stop.in_state
-      ∙ ap (unit_end_verdict t start us w) (sym (stop.at_entry ∙ ap (λ n. entry_of t state (class_at t n)) is))
+      ∙ ap (λ q. unit_end_verdict t start us w (entry_of t q t.eot_property)) at.in_state
+      ∙ ap (unit_end_verdict t start us w) (sym (at.at_entry ∙ ap (λ n. entry_of t stop.state (class_at t n)) is))
 
   abbrev LandsOn : Step UnitDetail → List UnitElement → Type 0
   LandsOn step left_over = Lands (unit_named_verdict t start (unit_seen left) us) es step left_over
@@ -85,15 +86,15 @@ module _ (t : PairTable) (start : ℕ) (left right : UnitElement) (after : List 
   lands-by : (v : Verdict) (step : Step UnitDetail) (left_over : List UnitElement) → unit_named_verdict t start (unit_seen left) us ≡ v → Lands v es step left_over → LandsOn step left_over
   lands-by v step left_over is lands = subst (λ v. Lands v es step left_over) (sym is) lands
 
-  pub unit-go : (element : UnitElement) → next ≡ Some element → entry ≡ Keep → LandsOn (Go element) rest
+  pub unit-go : (element : UnitElement) → stop.next ≡ Some element → stop.entry ≡ Keep → LandsOn (Go element) rest
   unit-go element is keep =
       lands-by (GoAfter w.stop) (Go element) rest (verdict-next element is ∙ ap (unit_stop_verdict t start us w) keep) (at-rest ∙ ap (λ n. onto n rest) is)
 
-  pub unit-break : (element : UnitElement) → next ≡ Some element → entry ≡ BreakEntry → LandsOn (step_unless before.detail.is_joined element) rest
+  pub unit-break : (element : UnitElement) → stop.next ≡ Some element → stop.entry ≡ BreakEntry → LandsOn (step_unless stop.before.detail.is_joined element) rest
   unit-break element is break =
-      lands-by (unless before.detail.is_joined w.stop) (step_unless before.detail.is_joined element) rest
+      lands-by (unless stop.before.detail.is_joined w.stop) (step_unless stop.before.detail.is_joined element) rest
       (verdict-next element is ∙ ap (unit_stop_verdict t start us w) break ∙ ap (λ b. unless b w.stop) joined-stop)
-      (lands-unless before.detail.is_joined w.stop es element rest (at-rest ∙ ap (λ n. onto n rest) is))
+      (lands-unless stop.before.detail.is_joined w.stop es element rest (at-rest ∙ ap (λ n. onto n rest) is))
 
   back-stop : (e : BreakState) → (e ≡ Keep → ⊥) → (e ≡ BreakEntry → ⊥) → unit_stop_verdict t start us w e ≡ unless (is_taken_from t start us w Found.SavedByUnit) w.saved
   back-stop Keep keep break = absurd (keep refl)
@@ -102,21 +103,21 @@ module _ (t : PairTable) (start : ℕ) (left right : UnitElement) (after : List 
   back-stop (Index q) keep break = refl
   back-stop (Intermediate q) keep break = refl
 
-  pub unit-back : (element : UnitElement) (taken_away : Bool) → next ≡ Some element → (entry ≡ Keep → ⊥) → (entry ≡ BreakEntry → ⊥)
-      → taken_away ≡ (saved_before.detail.is_joined || (before.detail.is_joined && is_class t start)) → LandsOn (step_unless taken_away saved) saved_rest
+  pub unit-back : (element : UnitElement) (taken_away : Bool) → stop.next ≡ Some element → (stop.entry ≡ Keep → ⊥) → (stop.entry ≡ BreakEntry → ⊥)
+      → taken_away ≡ (stop.saved_before.detail.is_joined || (stop.before.detail.is_joined && is_class t start)) → LandsOn (step_unless taken_away stop.saved) (left_of stop.saved_rest)
   unit-back element taken_away is keep break taken =
       let same : is_taken_from t start us w Found.SavedByUnit ≡ taken_away =
       ap (λ b. b || (joined_before us w.stop && is_class t start)) joined-saved
-      ∙ ap (λ b. saved_before.detail.is_joined || (b && is_class t start)) joined-stop ∙ sym taken in
-      lands-by (unless taken_away w.saved) (step_unless taken_away saved) saved_rest
-      (verdict-next element is ∙ back-stop entry keep break ∙ ap (λ b. unless b w.saved) same)
-      (lands-unless taken_away w.saved es saved saved_rest at-saved)
+      ∙ ap (λ b. stop.saved_before.detail.is_joined || (b && is_class t start)) joined-stop ∙ sym taken in
+      lands-by (unless taken_away w.saved) (step_unless taken_away stop.saved) (left_of stop.saved_rest)
+      (verdict-next element is ∙ back-stop stop.entry keep break ∙ ap (λ b. unless b w.saved) same)
+      (lands-unless taken_away w.saved es stop.saved (left_of stop.saved_rest) at-saved)
 
-  pub unit-end-back : next ≡ None → entry ≡ NoMatch → LandsOn (step_unless saved_before.detail.is_joined saved) saved_rest
+  pub unit-end-back : stop.next ≡ None → stop.entry ≡ NoMatch → LandsOn (step_unless stop.saved_before.detail.is_joined stop.saved) (left_of stop.saved_rest)
   unit-end-back is no_match =
-      lands-by (unless saved_before.detail.is_joined w.saved) (step_unless saved_before.detail.is_joined saved) saved_rest
+      lands-by (unless stop.saved_before.detail.is_joined w.saved) (step_unless stop.saved_before.detail.is_joined stop.saved) (left_of stop.saved_rest)
       (verdict-end is ∙ ap (unit_end_verdict t start us w) no_match ∙ ap (λ b. unless b w.saved) joined-saved)
-      (lands-unless saved_before.detail.is_joined w.saved es saved saved_rest at-saved)
+      (lands-unless stop.saved_before.detail.is_joined w.saved es stop.saved (left_of stop.saved_rest) at-saved)
 
   at-end : (e : BreakState) → (e ≡ NoMatch → ⊥) → unit_end_verdict t start us w e ≡ BreakAfter w.stop 0
   at-end NoMatch other = absurd (other refl)
@@ -125,10 +126,10 @@ module _ (t : PairTable) (start : ℕ) (left right : UnitElement) (after : List 
   at-end (Index q) other = refl
   at-end (Intermediate q) other = refl
 
-  pub unit-end : next ≡ None → (entry ≡ NoMatch → ⊥) → LandsOn (End 0) rest
+  pub unit-end : stop.next ≡ None → (stop.entry ≡ NoMatch → ⊥) → LandsOn (End 0) rest
   unit-end is other =
-      lands-by (BreakAfter w.stop 0) (End 0) rest (verdict-end is ∙ at-end entry other)
-      (refl, at-rest ∙ ap (λ n. onto n rest) is ∙ stop.at_end is, stop.at_end is)
+      lands-by (BreakAfter w.stop 0) (End 0) rest (verdict-end is ∙ at-end stop.entry other)
+      (refl, at-rest ∙ ap (λ n. onto n rest) is ∙ at.at_end is, at.at_end is)
 
 -- the step of the table from two units
 

@@ -9,6 +9,7 @@ use Rattle.seg_pairs.specs.declared.elements.Element.{Element}
 use Rattle.seg_pairs.specs.Elements.{classes_of, onto}
 use Rattle.seg_pairs.specs.Walk.{Walk}
 use Rattle.seg_pairs.specs.Verdict.{Verdict, stop_verdict, end_verdict, walk_verdict, named_verdict, first_verdict, verdict, complex_verdict, IsStop, class_at, walk_of, Lands, LandsOrWalks, EndsIn, IsRest, chain, TakesOf, IsForward}
+use Rattle.seg_pairs.specs.declared.walk.Stop.{Stop}
 use Rattle.seg_pairs.specs.declared.verdicts.Step.{Step}
 use Rattle.seg_pairs.specs.declared.verdicts.Step.TheVariants.{Break, End, Go, Run, Walk as WalkOn}
 use Rattle.seg_pairs.specs.declared.verdicts.Outcome.{Outcome}
@@ -17,37 +18,37 @@ use Rattle.seg_pairs.proofs.Chains.{IsOnChain, chain-break, chain-run}
 use Rattle.seg_pairs.specs.Verdict.Verdict.{BreakAfter, GoAfter, RunBegins}
 use Rattle.seg_pairs.proofs.Walks.{drop-next}
 
-module _ {D : Type 0} (t : PairTable) (start : ℕ) (left right : Element D) (after : List (Element D)) (state : ℕ) (entry : BreakState)
-    (before : Element D) (next : Option (Element D)) (rest : List (Element D)) (saved_before saved : Element D) (saved_rest : List (Element D)) (class : ℕ)
-    (stop : IsStop t start (left ∷ right ∷ after) state entry before next rest saved_before saved saved_rest class) where
+-- what the stop of a walk from `left` and `right` says
+module _ {E D : Type 0} (left_of : E → List (Element D)) (t : PairTable) (start : ℕ) (left right : Element D) (after : List (Element D)) (stop : Stop E D)
+    (rest : List (Element D)) (at : IsStop left_of t start (left ∷ right ∷ after) stop rest) where
   abbrev pub w : Walk
   w = walk_of t start (left ∷ right ∷ after)
 
-  pub rest-at : drop w.stop (left ∷ right ∷ after) ≡ onto next rest
-  rest-at = ap (λ n. drop n (left ∷ right ∷ after)) stop.stops ∙ sym (drop-next (left ∷ right ∷ after) (onto next rest) before stop.passed stop.left_after)
+  pub rest-at : drop w.stop (left ∷ right ∷ after) ≡ onto stop.next rest
+  rest-at = ap (λ n. drop n (left ∷ right ∷ after)) at.stops ∙ sym (drop-next (left ∷ right ∷ after) (onto stop.next rest) stop.before at.passed at.left_after)
 
-  pub saved-at : drop w.saved (left ∷ right ∷ after) ≡ saved ∷ saved_rest
-  saved-at = ap (λ n. drop n (left ∷ right ∷ after)) stop.saves ∙ sym (drop-next (left ∷ right ∷ after) (saved ∷ saved_rest) saved_before stop.saved_passed stop.saved_after)
+  pub saved-at : drop w.saved (left ∷ right ∷ after) ≡ stop.saved ∷ left_of stop.saved_rest
+  saved-at = ap (λ n. drop n (left ∷ right ∷ after)) at.saves ∙ sym (drop-next (left ∷ right ∷ after) (stop.saved ∷ left_of stop.saved_rest) stop.saved_before at.saved_passed at.saved_after)
 
-  verdict-next : (element : Element D) → next ≡ Some element → named_verdict t start left.class (classes_of (left ∷ right ∷ after)) ≡ stop_verdict w entry
+  verdict-next : (element : Element D) → stop.next ≡ Some element → named_verdict t start left.class (classes_of (left ∷ right ∷ after)) ≡ stop_verdict w stop.entry
   unfolding named_verdict
   verdict-next element is =
       let there : drop w.stop (classes_of (left ∷ right ∷ after)) ≡ element.class ∷ classes_of rest =
       drop-map (λ (e : Element D). e.class) w.stop (left ∷ right ∷ after)
       ∙ ap classes_of (rest-at ∙ ap (λ n. onto n rest) is) in
       ap (walk_verdict t w) there
-      ∙ ap (λ q. stop_verdict w (entry_of t q element.class)) stop.in_state
-      ∙ ap (stop_verdict w) (sym (stop.at_entry ∙ ap (λ n. entry_of t state (class_at t n)) is))
+      ∙ ap (λ q. stop_verdict w (entry_of t q element.class)) at.in_state
+      ∙ ap (stop_verdict w) (sym (at.at_entry ∙ ap (λ n. entry_of t stop.state (class_at t n)) is))
 
-  verdict-end : next ≡ None → named_verdict t start left.class (classes_of (left ∷ right ∷ after)) ≡ end_verdict w entry
+  verdict-end : stop.next ≡ None → named_verdict t start left.class (classes_of (left ∷ right ∷ after)) ≡ end_verdict w stop.entry
   unfolding named_verdict
   verdict-end is =
       let there : drop w.stop (classes_of (left ∷ right ∷ after)) ≡ [] =
       drop-map (λ (e : Element D). e.class) w.stop (left ∷ right ∷ after)
-      ∙ ap classes_of (rest-at ∙ ap (λ n. onto n rest) is ∙ stop.at_end is) in
+      ∙ ap classes_of (rest-at ∙ ap (λ n. onto n rest) is ∙ at.at_end is) in
       ap (walk_verdict t w) there
-      ∙ ap (λ q. end_verdict w (entry_of t q t.eot_property)) stop.in_state
-      ∙ ap (end_verdict w) (sym (stop.at_entry ∙ ap (λ n. entry_of t state (class_at t n)) is))
+      ∙ ap (λ q. end_verdict w (entry_of t q t.eot_property)) at.in_state
+      ∙ ap (end_verdict w) (sym (at.at_entry ∙ ap (λ n. entry_of t stop.state (class_at t n)) is))
 
   abbrev LandsOn : Step D → List (Element D) → Type 0
   LandsOn step left_over = Lands (named_verdict t start left.class (classes_of (left ∷ right ∷ after))) (left ∷ right ∷ after) step left_over
@@ -56,14 +57,14 @@ module _ {D : Type 0} (t : PairTable) (start : ℕ) (left right : Element D) (af
       → Lands v (left ∷ right ∷ after) step left_over → LandsOn step left_over
   lands-by v step left_over is lands = subst (λ v. Lands v (left ∷ right ∷ after) step left_over) (sym is) lands
 
-  pub lands-go : (element : Element D) → next ≡ Some element → entry ≡ Keep → LandsOn (Go element) rest
+  pub lands-go : (element : Element D) → stop.next ≡ Some element → stop.entry ≡ Keep → LandsOn (Go element) rest
   lands-go element is keep =
       lands-by (GoAfter w.stop) (Go element) rest (verdict-next element is ∙ ap (stop_verdict w) keep) (rest-at ∙ ap (λ n. onto n rest) is)
 
-  pub lands-break : (element : Element D) → next ≡ Some element → entry ≡ BreakEntry → LandsOn (Break element state) rest
+  pub lands-break : (element : Element D) → stop.next ≡ Some element → stop.entry ≡ BreakEntry → LandsOn (Break element stop.state) rest
   lands-break element is break =
-      lands-by (BreakAfter w.stop w.state) (Break element state) rest (verdict-next element is ∙ ap (stop_verdict w) break)
-      (sym stop.in_state, rest-at ∙ ap (λ n. onto n rest) is)
+      lands-by (BreakAfter w.stop w.state) (Break element stop.state) rest (verdict-next element is ∙ ap (stop_verdict w) break)
+      (sym at.in_state, rest-at ∙ ap (λ n. onto n rest) is)
 
   back-stop : (e : BreakState) → (e ≡ Keep → ⊥) → (e ≡ BreakEntry → ⊥) → stop_verdict w e ≡ BreakAfter w.saved w.class
   back-stop Keep keep break = absurd (keep refl)
@@ -72,13 +73,13 @@ module _ {D : Type 0} (t : PairTable) (start : ℕ) (left right : Element D) (af
   back-stop (Index q) keep break = refl
   back-stop (Intermediate q) keep break = refl
 
-  pub lands-back : (element : Element D) → next ≡ Some element → (entry ≡ Keep → ⊥) → (entry ≡ BreakEntry → ⊥) → LandsOn (Break saved class) saved_rest
+  pub lands-back : (element : Element D) → stop.next ≡ Some element → (stop.entry ≡ Keep → ⊥) → (stop.entry ≡ BreakEntry → ⊥) → LandsOn (Break stop.saved stop.saved_class) (left_of stop.saved_rest)
   lands-back element is keep break =
-      lands-by (BreakAfter w.saved w.class) (Break saved class) saved_rest (verdict-next element is ∙ back-stop entry keep break) (sym stop.saved_class, saved-at)
+      lands-by (BreakAfter w.saved w.class) (Break stop.saved stop.saved_class) (left_of stop.saved_rest) (verdict-next element is ∙ back-stop stop.entry keep break) (sym at.saved_class, saved-at)
 
-  pub lands-end-back : next ≡ None → entry ≡ NoMatch → LandsOn (Break saved class) saved_rest
+  pub lands-end-back : stop.next ≡ None → stop.entry ≡ NoMatch → LandsOn (Break stop.saved stop.saved_class) (left_of stop.saved_rest)
   lands-end-back is no_match =
-      lands-by (BreakAfter w.saved w.class) (Break saved class) saved_rest (verdict-end is ∙ ap (end_verdict w) no_match) (sym stop.saved_class, saved-at)
+      lands-by (BreakAfter w.saved w.class) (Break stop.saved stop.saved_class) (left_of stop.saved_rest) (verdict-end is ∙ ap (end_verdict w) no_match) (sym at.saved_class, saved-at)
 
   at-end : (e : BreakState) → (e ≡ NoMatch → ⊥) → end_verdict w e ≡ BreakAfter w.stop w.state
   at-end NoMatch other = absurd (other refl)
@@ -87,10 +88,10 @@ module _ {D : Type 0} (t : PairTable) (start : ℕ) (left right : Element D) (af
   at-end (Index q) other = refl
   at-end (Intermediate q) other = refl
 
-  pub lands-end : next ≡ None → (entry ≡ NoMatch → ⊥) → LandsOn (End state) rest
+  pub lands-end : stop.next ≡ None → (stop.entry ≡ NoMatch → ⊥) → LandsOn (End stop.state) rest
   lands-end is other =
-      lands-by (BreakAfter w.stop w.state) (End state) rest (verdict-end is ∙ at-end entry other)
-      (sym stop.in_state, rest-at ∙ ap (λ n. onto n rest) is ∙ stop.at_end is, stop.at_end is)
+      lands-by (BreakAfter w.stop w.state) (End stop.state) rest (verdict-end is ∙ at-end stop.entry other)
+      (sym at.in_state, rest-at ∙ ap (λ n. onto n rest) is ∙ at.at_end is, at.at_end is)
 
 -- the step where the first entry names a state, or says what there is
 
@@ -262,14 +263,12 @@ later-rest : {D : Type 0} (left right before : Element D) (next : Option (Elemen
 later-rest left right before None after rest passed here none = (length after, none refl ∙ sym (drop_all (length after) after (omega arith)))
 later-rest left right before (Some next) after rest passed here none = (passed, later-two left right before next after rest passed here)
 
-pub later-stop : {D : Type 0} (t : PairTable) (start : ℕ) (left right : Element D) (after : List (Element D)) (state : ℕ) (entry : BreakState)
-    (before : Element D) (next : Option (Element D)) (rest : List (Element D)) (saved_before saved : Element D) (saved_rest : List (Element D)) (class : ℕ)
-    → IsStop t start (left ∷ right ∷ after) state entry before next rest saved_before saved saved_rest class → (k : ℕ) × (rest ≡ drop k after)
-later-stop t start left right after state entry before next rest saved_before saved saved_rest class stop =
-    later-rest left right before next after rest stop.passed stop.left_after stop.at_end
+pub later-stop : {E D : Type 0} (left_of : E → List (Element D)) (t : PairTable) (start : ℕ) (left right : Element D) (after : List (Element D)) (stop : Stop E D)
+    (rest : List (Element D)) → IsStop left_of t start (left ∷ right ∷ after) stop rest → (k : ℕ) × (rest ≡ drop k after)
+later-stop left_of t start left right after stop rest at =
+    later-rest left right stop.before stop.next after rest at.passed at.left_after at.at_end
 
-pub later-saved : {D : Type 0} (t : PairTable) (start : ℕ) (left right : Element D) (after : List (Element D)) (state : ℕ) (entry : BreakState)
-    (before : Element D) (next : Option (Element D)) (rest : List (Element D)) (saved_before saved : Element D) (saved_rest : List (Element D)) (class : ℕ)
-    → IsStop t start (left ∷ right ∷ after) state entry before next rest saved_before saved saved_rest class → (k : ℕ) × (saved_rest ≡ drop k after)
-later-saved t start left right after state entry before next rest saved_before saved saved_rest class stop =
-    (stop.saved_passed, later-two left right saved_before saved after saved_rest stop.saved_passed stop.saved_after)
+pub later-saved : {E D : Type 0} (left_of : E → List (Element D)) (t : PairTable) (start : ℕ) (left right : Element D) (after : List (Element D)) (stop : Stop E D)
+    (rest : List (Element D)) → IsStop left_of t start (left ∷ right ∷ after) stop rest → (k : ℕ) × (left_of stop.saved_rest ≡ drop k after)
+later-saved left_of t start left right after stop rest at =
+    (at.saved_passed, later-two left right stop.saved_before stop.saved after (left_of stop.saved_rest) at.saved_passed at.saved_after)

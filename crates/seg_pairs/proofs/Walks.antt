@@ -10,8 +10,9 @@ use Rattle.seg_pairs.specs.declared.provider.pairs.BreakState.{BreakState}
 use Rattle.seg_pairs.specs.PairTable.{named_state, is_intermediate, PairTable, entry_of}
 use Rattle.seg_pairs.specs.declared.elements.Element.{Element}
 use Rattle.seg_pairs.specs.Walk.{Naming, namings, Walk, walk, is_class, leaves_class, saves, last_or}
-use Rattle.seg_pairs.specs.Elements.{classes_of}
+use Rattle.seg_pairs.specs.Elements.{classes_of, onto}
 use Rattle.seg_pairs.specs.Verdict.{IsStop, class_at, walk_of}
+use Rattle.seg_pairs.specs.declared.walk.Stop.{Stop}
 
 -- the last of a kind among the others, or else the first
 last_or-cons : (is : Naming → Bool) (has : Naming → ℕ) (naming : Naming) (namings : List Naming) (otherwise : ℕ)
@@ -127,53 +128,54 @@ module _ {D : Type 0} (t : PairTable) (start : ℕ) (whole : List (Element D)) (
   }
 
 -- where the walk stops
-module _ {D : Type 0} (t : PairTable) (start : ℕ) (whole : List (Element D)) (state : ℕ) (before : Element D) (left : List (Element D))
-    (saved_before saved : Element D) (saved_left : List (Element D)) (class : ℕ) (entry : BreakState)
-    (midway : IsMidway t start whole state before left saved_before saved saved_left class) where
-  pub stop-at : (next : Element D) (after : List (Element D)) → left ≡ next ∷ after → entry ≡ entry_of t state next.class → named_state entry ≡ None
-      → IsStop t start whole state entry before (Some next) after saved_before saved saved_left class
-  stop-at next after is is_entry none =
-      let stops = ap (λ (elements : List (Element D)). walk t state (suc midway.passed) (suc midway.saved_passed) class (classes_of elements)) (sym is) ∙ midway.same in
-      let same = sym (sym (walk-stop t state (suc midway.passed) (suc midway.saved_passed) class next.class (classes_of after) (sym (ap named_state is_entry) ∙ none)) ∙ stops) in
-      record {
-        passed = midway.passed;
-        stops = ap (λ (w : Walk). w.stop) same;
-        left_after = ap (λ (elements : List (Element D)). before ∷ elements) (sym is) ∙ midway.left_after;
-        in_state = ap (λ (w : Walk). w.state) same;
-        at_entry = is_entry;
-        names_none = λ element here. none;
-        at_end = λ here. cc;
-        saved_passed = midway.saved_passed;
-        saves = ap (λ (w : Walk). w.saved) same;
-        saved_after = midway.saved_after;
-        saved_class = ap (λ (w : Walk). w.class) same;
-      }
 
-  pub stop-end : (after : List (Element D)) → left ≡ [] → after ≡ [] → entry ≡ entry_of t state t.eot_property
-      → IsStop t start whole state entry before None after saved_before saved saved_left class
-  stop-end after is none is_entry =
-      let stops = ap (λ (elements : List (Element D)). walk t state (suc midway.passed) (suc midway.saved_passed) class (classes_of elements)) (sym is) ∙ midway.same in
-      let same = sym (sym (walk-end t state (suc midway.passed) (suc midway.saved_passed) class) ∙ stops) in
-      record {
-        passed = midway.passed;
-        stops = ap (λ (w : Walk). w.stop) same;
-        left_after = ap (λ (elements : List (Element D)). before ∷ elements) (none ∙ sym is) ∙ midway.left_after;
-        in_state = ap (λ (w : Walk). w.state) same;
-        at_entry = is_entry;
-        names_none = λ element here. cc;
-        at_end = λ here. none;
-        saved_passed = midway.saved_passed;
-        saves = ap (λ (w : Walk). w.saved) same;
-        saved_after = midway.saved_after;
-        saved_class = ap (λ (w : Walk). w.class) same;
-      }
+read-onto : {D : Type 0} (left : List (Element D)) (next : Option (Element D)) (after : List (Element D))
+    → YieldsFirst (λ (elements : List (Element D)). elements) left next after → left ≡ onto next after
+read-onto left None after gives = gives.0 ∙ sym gives.1
+read-onto left (Some next) after gives = gives
 
-  pub stop-from : (next : Option (Element D)) (after : List (Element D)) → YieldsFirst (λ (elements : List (Element D)). elements) left next after
-      → entry ≡ entry_of t state (class_at t next) → (next ≡ None) ⊎ (named_state entry ≡ None)
-      → IsStop t start whole state entry before next after saved_before saved saved_left class
-  stop-from None after gives is_entry stops = stop-end after gives.0 gives.1 is_entry
-  stop-from (Some next) after gives is_entry (inl none) = cc
-  stop-from (Some next) after gives is_entry (inr none) = stop-at next after gives is_entry none
+read-none : {D : Type 0} (left : List (Element D)) (next : Option (Element D)) (after : List (Element D))
+    → YieldsFirst (λ (elements : List (Element D)). elements) left next after → next ≡ None → after ≡ []
+read-none left None after gives is = gives.1
+read-none left (Some next) after gives is = cc
+
+names-none : {D : Type 0} (next : Option (Element D)) (entry : BreakState) → (next ≡ None) ⊎ (named_state entry ≡ None)
+    → (element : Element D) → next ≡ Some element → named_state entry ≡ None
+names-none next entry (inl none) element is = cc
+names-none next entry (inr none) element is = none
+
+walk-over : {D : Type 0} (t : PairTable) (state number saved class : ℕ) (next : Option (Element D)) (after : List (Element D)) (entry : BreakState)
+    → entry ≡ entry_of t state (class_at t next) → ((element : Element D) → next ≡ Some element → named_state entry ≡ None) → (next ≡ None → after ≡ [])
+    → walk t state number saved class (classes_of (onto next after)) ≡ stopped state number saved class
+walk-over t state number saved class None after entry is none end = rw (end refl) (walk-end t state number saved class)
+walk-over t state number saved class (Some next) after entry is none end =
+    walk-stop t state number saved class next.class (classes_of after) (sym (ap named_state is) ∙ none next refl)
+
+pub stop-from : {E D : Type 0} (left_of : E → List (Element D)) (t : PairTable) (start : ℕ) (whole left : List (Element D)) (stop : Stop E D) (after : List (Element D))
+    → IsMidway t start whole stop.state stop.before left stop.saved_before stop.saved (left_of stop.saved_rest) stop.saved_class
+    → YieldsFirst (λ (elements : List (Element D)). elements) left stop.next after
+    → stop.entry ≡ entry_of t stop.state (class_at t stop.next) → (stop.next ≡ None) ⊎ (named_state stop.entry ≡ None)
+    → IsStop left_of t start whole stop after
+stop-from {E} {D} left_of t start whole left stop after midway gives is_entry stops =
+    let is = read-onto left stop.next after gives in
+    let none = names-none stop.next stop.entry stops in
+    let end = read-none left stop.next after gives in
+    let over = walk-over t stop.state (suc midway.passed) (suc midway.saved_passed) stop.saved_class stop.next after stop.entry is_entry none end in
+    let same = sym midway.same
+    ∙ ap (λ (elements : List (Element D)). walk t stop.state (suc midway.passed) (suc midway.saved_passed) stop.saved_class (classes_of elements)) is ∙ over in
+    record {
+      passed = midway.passed;
+      stops = ap (λ (w : Walk). w.stop) same;
+      left_after = ap (λ (elements : List (Element D)). stop.before ∷ elements) (sym is) ∙ midway.left_after;
+      in_state = ap (λ (w : Walk). w.state) same;
+      at_entry = is_entry;
+      names_none = none;
+      at_end = end;
+      saved_passed = midway.saved_passed;
+      saves = ap (λ (w : Walk). w.saved) same;
+      saved_after = midway.saved_after;
+      saved_class = ap (λ (w : Walk). w.class) same;
+    }
 
 -- an element that was read, where it is there
 pub read-some : {D : Type 0} (left : List (Element D)) (next : Option (Element D)) (element : Element D) (after : List (Element D))

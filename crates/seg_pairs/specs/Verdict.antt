@@ -11,6 +11,7 @@ use Rattle.seg_pairs.specs.declared.verdicts.Step.{Step}
 use Rattle.seg_pairs.specs.declared.verdicts.Step.TheVariants as steps
 use Rattle.seg_pairs.specs.declared.verdicts.Outcome.{Outcome}
 use Rattle.seg_pairs.specs.declared.verdicts.Outcome.TheVariants.{Break as BreakOut, Run as RunOut}
+use Rattle.seg_pairs.specs.declared.walk.Stop.{Stop}
 
 pub data Verdict : Type 0 where
   -- after so many elements stands a boundary, with a class
@@ -87,23 +88,21 @@ walk_of t start [] = walk_from t start 0 []
 walk_of t start (first ∷ []) = walk_from t start first.class []
 walk_of t start (first ∷ second ∷ after) = walk_from t start first.class (classes_of after)
 
--- the walk stops in this state before the elements that are left, where this entry names no state, or at the end; it
--- was saved last before those, with this class; `before` and `saved_before` are the elements right before
+-- the walk of these elements stops so: at an entry that names no state, or at the end of the text. These are left then
 pub record IsStop
-    {D : Type 0} (t : PairTable) (start : ℕ) (elements : List (Element D)) (state : ℕ) (entry : BreakState)
-    (before : Element D) (next : Option (Element D)) (left : List (Element D))
-    (saved_before saved : Element D) (saved_left : List (Element D)) (class : ℕ) : Type 0 where
+    {E D : Type 0} (left_of : E → List (Element D)) (t : PairTable) (start : ℕ) (elements : List (Element D)) (stop : Stop E D)
+    (left : List (Element D)) : Type 0 where
   pub passed : ℕ
   pub stops : (walk_of t start elements).stop ≡ suc passed
-  pub left_after : before ∷ onto next left ≡ drop passed elements
-  pub in_state : (walk_of t start elements).state ≡ state
-  pub at_entry : entry ≡ entry_of t state (class_at t next)
-  pub names_none : (element : Element D) → next ≡ Some element → named_state entry ≡ None
-  pub at_end : next ≡ None → left ≡ []
+  pub left_after : stop.before ∷ onto stop.next left ≡ drop passed elements
+  pub in_state : (walk_of t start elements).state ≡ stop.state
+  pub at_entry : stop.entry ≡ entry_of t stop.state (class_at t stop.next)
+  pub names_none : (element : Element D) → stop.next ≡ Some element → named_state stop.entry ≡ None
+  pub at_end : stop.next ≡ None → left ≡ []
   pub saved_passed : ℕ
   pub saves : (walk_of t start elements).saved ≡ suc saved_passed
-  pub saved_after : saved_before ∷ saved ∷ saved_left ≡ drop saved_passed elements
-  pub saved_class : (walk_of t start elements).class ≡ class
+  pub saved_after : stop.saved_before ∷ stop.saved ∷ left_of stop.saved_rest ≡ drop saved_passed elements
+  pub saved_class : (walk_of t start elements).class ≡ stop.saved_class
 
 -- Chains of verdicts: where those to go on lead.
 

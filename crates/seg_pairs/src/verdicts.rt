@@ -3,7 +3,7 @@
 ghost use Rattle.std.specs.Prelude.{◌≡◌, ◌<◌, ℕ, List, ◌∷◌, drop, IfSome};
 ghost use Rattle.seg_pairs.specs.PairTable.{PairTable};
 ghost use Rattle.seg_pairs.specs.Elements.{classes_of};
-ghost use Rattle.seg_pairs.specs.Verdict.{IsStop, Lands, LandsOrWalks, EndsIn, IsStepBelow, IsOutcomeBelow, verdict, named_verdict, complex_verdict, chain, IsForward};
+ghost use Rattle.seg_pairs.specs.Verdict.{Lands, LandsOrWalks, EndsIn, IsStepBelow, IsOutcomeBelow, verdict, named_verdict, complex_verdict, chain, IsForward};
 
 use crate::elements::{Element, Elements};
 use crate::provider::{BreakState, RuleBreakData};

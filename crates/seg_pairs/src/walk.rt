@@ -43,8 +43,7 @@ pub fn walk<E: Elements>(
     requires start { start < table.now.property_count }
     requires right { right.class < table.now.property_count }
     requires table { E.table rest.old ≡ table.now }
-    ensures stop { IsStop table.now start (left ∷ right ∷ E.left rest.old) result.state result.entry result.before result.next (E.left rest.new)
-        result.saved_before result.saved (E.left result.saved_rest) result.saved_class }
+    ensures stop { IsStop E.left table.now start (left ∷ right ∷ E.left rest.old) result (E.left rest.new) }
     ensures next { IfSome result.next (λ next. next.class < table.now.property_count) }
     ensures saved { result.saved.class < table.now.property_count }
     ensures end { E.end rest.new ≡ E.end rest.old }

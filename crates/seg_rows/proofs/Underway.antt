@@ -9,11 +9,15 @@ use Rattle.seg_machine.specs.declared.provider.Acceptance.TheVariants.{Continue,
 use Rattle.seg_machine.specs.Machine.{Machine, state_at, step, symbols_of}
 use Rattle.seg_machine.specs.MachineFaults.{IsChecked}
 use Rattle.seg_machine.specs.Pick.{acceptance_status, pick}
-use Rattle.seg_machine.specs.Scan.{acceptance_after, condition_end, place_for, places_after, IsSegment, IsSymbolAhead}
+use Rattle.seg_machine.specs.Scan.{acceptance_after, condition_end, place_for, places_after, IsPicked, IsSegment, IsSymbolAhead}
 use Rattle.seg_machine.proofs.Scanned.{found-pick, none-picked, pick-some, scanned-start, scanned-step, scanned-stop}
 use Rattle.seg_machine.specs.DenseRows.{AreStatuses, row_entry, slow, status_of}
-use Rattle.seg_rows.specs.Underway.{IsNextEntry, IsUnderway}
+use Rattle.seg_rows.specs.Underway.{IsNextEntry, IsScannedTo, IsUnderway}
 use Rattle.seg_machine.proofs.Entries.{IsUnconditional, ends-before, goes-on}
+
+pub scanned-to : (m : Machine) (text : Text) (picked : Boundary) (stood symbol : ℕ) (after : Text) → IsPicked m text picked
+    → (k : ℕ) × (stood ≡ start_of (rest_after k text)) × IsSymbolAhead m (rest_after k text) symbol after → IsScannedTo m text picked stood symbol after
+scanned-to m text picked stood symbol after pick (passed, place, ahead) = record { pick = pick; passed = passed; place = place; ahead = ahead }
 
 -- places tell items apart
 same-items : (items : List Item) (end j k : ℕ) → IsRising items end → place_of (drop j items) end ≡ place_of (drop k items) end → drop j items ≡ drop k items

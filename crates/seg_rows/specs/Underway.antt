@@ -3,11 +3,18 @@ use Rattle.std.specs.Prelude.{◌≡◌, ◌≢◌, ℕ, ◌+◌, ◌*◌, ◌<�
 use Rattle.seg_text.specs.declared.boundary.Boundary.{Boundary}
 use Rattle.seg_text.specs.Boundaries.{boundary, boundaries_in, later_boundaries, offsets}
 use Rattle.seg_text.specs.Filled.{last_status}
-use Rattle.seg_text.specs.Items.{Text, start_of}
+use Rattle.seg_text.specs.Items.{Text, start_of, rest_after}
 use Rattle.seg_machine.specs.Machine.{Machine, state_at}
 use Rattle.seg_machine.specs.Pick.{acceptance_status, machine_stretch}
-use Rattle.seg_machine.specs.Scan.{IsSymbolAhead, Scanned}
+use Rattle.seg_machine.specs.Scan.{IsPicked, IsSymbolAhead, Scanned}
 use Rattle.seg_machine.specs.DenseRows.{row_entry, slow}
+
+-- the scan of a text has found its pick, and stands at this place: the symbol of what is left there is read ahead
+pub record IsScannedTo (m : Machine) (text : Text) (picked : Boundary) (stood symbol : ℕ) (after : Text) : Type 0 where
+  pub pick : IsPicked m text picked
+  pub passed : ℕ
+  pub place : stood ≡ start_of (rest_after passed text)
+  pub ahead : IsSymbolAhead m (rest_after passed text) symbol after
 
 -- the scan of a text has come to the state of this row, and this is left: where the state accepts, that is the last acceptance
 pub record IsUnderway (m : Machine) (text : Text) (row : ℕ) (left : Text) : Type 0 where

@@ -11,7 +11,8 @@ ghost use Rattle.seg_machine.specs.MachineFaults.{NamesPast};
 ghost use Rattle.seg_machine.specs.Machine.{state_at, symbols_of};
 ghost use Rattle.seg_machine.specs.Pick.{pick, machine_boundaries};
 ghost use Rattle.seg_machine.specs.Tailored.{machine_of};
-ghost use Rattle.seg_machine.specs.Scan.{acceptance_at, condition_end, places_after, IsPicked, IsSymbolAhead, IsSegment};
+ghost use Rattle.seg_machine.specs.Scan.{acceptance_at, condition_end, places_after, IsSymbolAhead, IsSegment};
+ghost use Rattle.seg_rows.specs.Underway.{IsScannedTo};
 
 use crate::buffers::{Filled, fill_both, fill_places, put_first};
 use crate::places::{EightPlaces, NoPlaces, OnePlace, Places};
@@ -235,7 +236,7 @@ pub(crate) fn next_segment<I: Cursor>(
     let stood = match machine.num_lookaheads() {
         0 => scan(machine, rest, ahead, NoPlaces, &mut picked),
         1 => scan(machine, rest, ahead, OnePlace(None), &mut picked),
-        _ => scan_apart(machine, rest, ahead, &mut picked),
+        _ => scan_on_copies(machine, rest, ahead, &mut picked),
     };
     rest.seek(picked.offset);
     if picked.offset != stood {
@@ -258,9 +259,7 @@ fn scan<I: Cursor, P: Places>(
     requires none { P.kept kept ≡ replicate (length (P.kept kept)) None }
     requires enough { (machine_of machine.now).num_lookaheads ≤ length (P.kept kept) }
     requires ahead { IsSymbolAhead (machine_of machine.now) (I.text rest.now) ahead.old.symbol (I.text ahead.old.after) }
-    ensures pick { IsPicked (machine_of machine.now) (I.text rest.now) picked.new }
-    ensures stood { (k : ℕ) × (result ≡ start_of (rest_after k (I.text rest.now)))
-        × IsSymbolAhead (machine_of machine.now) (rest_after k (I.text rest.now)) ahead.new.symbol (I.text ahead.new.after) }
+    ensures { IsScannedTo (machine_of machine.now) (I.text rest.now) picked.new result ahead.new.symbol (I.text ahead.new.after) }
 {
     machine.facts();
     let mut state = SegmenterStateMachine::START_STATE;
@@ -280,7 +279,7 @@ fn scan<I: Cursor, P: Places>(
 
 /// A scan by a machine with several lookaheads, on copies, so that what the caller has can stay in registers.
 #[inline(always)]
-fn scan_apart<I: Cursor>(
+fn scan_on_copies<I: Cursor>(
     machine: &TailoredMachineBorrowed<'_>,
     rest: &I,
     ahead: &mut Ahead<I>,
@@ -288,9 +287,7 @@ fn scan_apart<I: Cursor>(
 ) -> usize
     requires some { (I.text rest.now).items ≢ [] }
     requires ahead { IsSymbolAhead (machine_of machine.now) (I.text rest.now) ahead.old.symbol (I.text ahead.old.after) }
-    ensures pick { IsPicked (machine_of machine.now) (I.text rest.now) picked.new }
-    ensures stood { (k : ℕ) × (result ≡ start_of (rest_after k (I.text rest.now)))
-        × IsSymbolAhead (machine_of machine.now) (rest_after k (I.text rest.now)) ahead.new.symbol (I.text ahead.new.after) }
+    ensures { IsScannedTo (machine_of machine.now) (I.text rest.now) picked.new result ahead.new.symbol (I.text ahead.new.after) }
 {
     let machine = *machine;
     let rest = rest.fork();
@@ -320,9 +317,7 @@ fn scan_with_eight<I: Cursor>(
 ) -> usize
     requires some { (I.text rest.now).items ≢ [] }
     requires ahead { IsSymbolAhead (machine_of machine.now) (I.text rest.now) ahead.old.symbol (I.text ahead.old.after) }
-    ensures pick { IsPicked (machine_of machine.now) (I.text rest.now) picked.new }
-    ensures stood { (k : ℕ) × (result ≡ start_of (rest_after k (I.text rest.now)))
-        × IsSymbolAhead (machine_of machine.now) (rest_after k (I.text rest.now)) ahead.new.symbol (I.text ahead.new.after) }
+    ensures { IsScannedTo (machine_of machine.now) (I.text rest.now) picked.new result ahead.new.symbol (I.text ahead.new.after) }
 {
     machine.facts();
     scan(machine, rest, ahead, EightPlaces([None; 8]), picked)

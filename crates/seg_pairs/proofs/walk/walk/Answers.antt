@@ -7,7 +7,7 @@ use Rattle.seg_pairs.proofs.walk.walk.Goals.{then-saves, else-saves}
 pub returns-in_default-clause-stop : goal.returns-in_default-clause-stop
 returns-in_default-clause-stop g c =
     let entry = c.entry-entry.ensures.value ∙ ap (entry_of c.args.table.now c.loop-element.state) c.class_before.ensures.value in
-    stop-from _ _ _ _ _ _ _ _ _ _ _ c.loop-element.invariant.midway _ _ c.next_element-next.ensures.gives entry c.in_default.ensures
+    stop-from g.E.Elements.left _ _ _ _ _ _ c.loop-element.invariant.midway c.next_element-next.ensures.gives entry c.in_default.ensures
 
 pub loop-element-preserved : goal.loop-element-preserved
 loop-element-preserved g c =
