@@ -9,10 +9,10 @@ use Rattle.seg_data.specs.declared.provider.DataError.{DataError}
 use Rattle.seg_data.specs.declared.provider.DataError.TheVariants.{Memory, RangeOrder, RangePast10FFFF, TableSize, ClassOutOfRange, StateOutOfRange, StartRowKeeps, ComplexItems, ComplexBelow0100, ComplexClassNamed, StateCount, TransitionSize, TransitionOutOfRange, SymbolOutOfRange, TooManyLookaheads, LookaheadOutOfRange, EndCycle, Stalls, MissingTailoring}
 use Rattle.seg_data.specs.Faults.{IsLowestFault}
 use Rattle.seg_data.specs.Table.{named_values}
-use Rattle.seg_line_rules.specs.declared.engines.LineEngine.{LineEngine}
-use Rattle.seg_line_rules.specs.LineClasses.{class_number}
-use Rattle.seg_line_rules.specs.LineClasses.LineClass.{ID}
-use Rattle.seg_line_rules.specs.LineRules.{HasLineTableFault, HasOwnLineFault, is_complex_by, is_never_complex}
+use Rattle.seg_line_pairs.specs.declared.engines.LineEngine.{LineEngine}
+use Rattle.seg_line_pairs.specs.LineClasses.{class_number}
+use Rattle.seg_line_pairs.specs.LineClasses.LineClass.{ID}
+use Rattle.seg_line_pairs.specs.LineRules.{HasLineTableFault, HasOwnLineFault, is_complex_by, is_never_complex}
 use Rattle.seg_lines.specs.Lines.{HasFaultWith}
 use Rattle.seg_machine.specs.Machine.{Machine, MachineTailoring, Replacement, symbol_and_script, symbol_count, with_tailoring}
 use Rattle.seg_machine.specs.MachineFaults.{HasComplexBelow0100, HasMachineFault, HasTailoringFault, IsStray, IsStrayReplacement}

@@ -6,13 +6,13 @@ use Rattle.seg_data.specs.declared.provider.DataError.{DataError}
 use Rattle.seg_data.specs.declared.provider.DataError.TheVariants.{Memory}
 use Rattle.seg_data.specs.Faults.{IsLowestFault}
 use Rattle.seg_data.specs.Table.{value_of}
-use Rattle.seg_line_rules.specs.declared.engines.LineEngine.TheVariants.{Classic, Seventeen}
-use Rattle.seg_line_rules.specs.declared.options.LineBreakOptions.{LineBreakOptions}
-use Rattle.seg_line_rules.specs.declared.options.LineBreakStrictness.{LineBreakStrictness}
-use Rattle.seg_line_rules.specs.declared.options.LineBreakStrictness.TheVariants as strictness
-use Rattle.seg_line_rules.specs.declared.options.LineBreakWordOption.{LineBreakWordOption}
-use Rattle.seg_line_rules.specs.declared.options.LineBreakWordOption.TheVariants as word_option
-use Rattle.seg_line_rules.specs.LineRules.{HasLineTableFault, is_complex_context, style_of}
+use Rattle.seg_line_pairs.specs.declared.engines.LineEngine.TheVariants.{Classic, Seventeen}
+use Rattle.seg_line_pairs.specs.declared.options.LineBreakOptions.{LineBreakOptions}
+use Rattle.seg_line_pairs.specs.declared.options.LineBreakStrictness.{LineBreakStrictness}
+use Rattle.seg_line_pairs.specs.declared.options.LineBreakStrictness.TheVariants as strictness
+use Rattle.seg_line_pairs.specs.declared.options.LineBreakWordOption.{LineBreakWordOption}
+use Rattle.seg_line_pairs.specs.declared.options.LineBreakWordOption.TheVariants as word_option
+use Rattle.seg_line_pairs.specs.LineRules.{HasLineTableFault, is_complex_context, style_of}
 use Rattle.seg_lines.specs.Lines.{HasLineFault}
 use Rattle.seg_lines.specs.Options.{MachineTailorings, machine_choice, machine_for}
 use Rattle.seg_machine.specs.Machine.{Machine, replaced, symbol_and_script, symbol_count, with_tailoring}

@@ -7,17 +7,17 @@ use Rattle.seg_text.specs.Items.{Text, rest_after, code_points}
 use Rattle.seg_pairs.specs.declared.provider.pairs.BreakState.{BreakState}
 use Rattle.seg_pairs.specs.declared.provider.pairs.BreakState.TheVariants as entries
 use Rattle.seg_pairs.specs.PairTable.{entry_of}
-use Rattle.seg_line_rules.specs.LineRules.{TableRules, is_one_of, is_complex_context, line_class}
-use Rattle.seg_line_rules.specs.LineEvents.{FollowsPairs, LeadsToBreak, asks_more, text_from, HasClass}
-use Rattle.seg_line_rules.specs.ReadAhead.{LeadsByPairs, UnreadItems, rules_of}
-use Rattle.seg_line_rules.specs.declared.engines.PlainPair.{PlainPair}
-use Rattle.seg_line_rules.specs.declared.engines.PlainPair.TheVariants as plain
-use Rattle.seg_line_rules.specs.declared.plain_pairs.ClassedItem.{ClassedItem}
-use Rattle.seg_line_rules.specs.LineClasses.{class_number}
-use Rattle.seg_line_rules.specs.LineClasses.LineClass.{CM, CM_EASTASIAN, HH, HY, IS, QU_PF, SA, SA_MC_MN, SP, ZWJ}
-use Rattle.seg_line_rules.specs.declared.engines.LineEngine.TheVariants.{Seventeen}
-use Rattle.seg_line_rules.proofs.Marks.{none-among}
-use Rattle.seg_line_rules.proofs.PlainPairs.{and-first, and-last, and-off, if-off, keeps-off, listed-off, not-true, said-break, said-go}
+use Rattle.seg_line_pairs.specs.LineRules.{TableRules, is_one_of, is_complex_context, line_class}
+use Rattle.seg_line_pairs.specs.LineEvents.{FollowsPairs, LeadsToBreak, asks_more, text_from, HasClass}
+use Rattle.seg_line_pairs.specs.ReadAhead.{LeadsByPairs, UnreadItems, rules_of}
+use Rattle.seg_line_pairs.specs.declared.engines.PlainPair.{PlainPair}
+use Rattle.seg_line_pairs.specs.declared.engines.PlainPair.TheVariants as plain
+use Rattle.seg_line_pairs.specs.declared.plain_pairs.ClassedItem.{ClassedItem}
+use Rattle.seg_line_pairs.specs.LineClasses.{class_number}
+use Rattle.seg_line_pairs.specs.LineClasses.LineClass.{CM, CM_EASTASIAN, HH, HY, IS, QU_PF, SA, SA_MC_MN, SP, ZWJ}
+use Rattle.seg_line_pairs.specs.declared.engines.LineEngine.TheVariants.{Seventeen}
+use Rattle.seg_line_pairs.proofs.Marks.{none-among}
+use Rattle.seg_line_pairs.proofs.PlainPairs.{and-first, and-last, and-off, if-off, keeps-off, listed-off, not-true, said-break, said-go}
 use Rattle.seg_line_turns.specs.TurnEvents.{entry_turn, going_text, is_asked, is_plain_turn, is_unanswered, plain_turn, turns_of, turns_unread, unread_turns}
 use Rattle.seg_line_turns.specs.TurnBoundaries.{later_turns, turn_stretch_of}
 use Rattle.seg_line_turns.specs.TurnClasses.{is_before_hyphen, is_before_quote, is_glue, is_hyphen, is_infix, is_opening, is_quote, is_space}

@@ -9,14 +9,14 @@ use Rattle.seg_pairs.specs.PairTable.{entry_of}
 use Rattle.seg_pairs.specs.Walk.{is_class}
 use Rattle.seg_pairs.specs.Verdict.{Verdict}
 use Rattle.seg_pairs.specs.Verdict.Verdict.{BreakAfter, GoAfter, RunBegins}
-use Rattle.seg_line_rules.specs.declared.verdicts.Case.TheVariants.{Together}
-use Rattle.seg_line_rules.specs.declared.engines.LineEngine.TheVariants.{Seventeen}
-use Rattle.seg_line_rules.specs.LineRules.{TableRules, line_class, is_complex_context, class_read}
-use Rattle.seg_line_rules.specs.LineUnits.{LineUnit, CountedUnit, counted_units, units_from, units_of, extent_of, is_mark, is_glued, bears_none}
-use Rattle.seg_line_rules.specs.LineLists.{keeps, listed}
-use Rattle.seg_line_rules.specs.LineVerdict.{case_of, case_verdict, list_case, unless, unit_verdict, unit_first_verdict, unit_named_verdict}
-use Rattle.seg_line_rules.specs.LineBoundaries.{complex_length, in_code_points, line_verdict, line_stretch_of, line_stretch, line_boundaries}
-use Rattle.seg_line_rules.proofs.UnitLists.{units-left}
+use Rattle.seg_line_pairs.specs.declared.verdicts.Case.TheVariants.{Together}
+use Rattle.seg_line_pairs.specs.declared.engines.LineEngine.TheVariants.{Seventeen}
+use Rattle.seg_line_pairs.specs.LineRules.{TableRules, line_class, is_complex_context, class_read}
+use Rattle.seg_line_pairs.specs.LineUnits.{LineUnit, CountedUnit, counted_units, units_from, units_of, extent_of, is_mark, is_glued, bears_none}
+use Rattle.seg_line_pairs.specs.LineLists.{keeps, listed}
+use Rattle.seg_line_pairs.specs.LineVerdict.{case_of, case_verdict, list_case, unless, unit_verdict, unit_first_verdict, unit_named_verdict}
+use Rattle.seg_line_pairs.specs.LineBoundaries.{complex_length, in_code_points, line_verdict, line_stretch_of, line_stretch, line_boundaries}
+use Rattle.seg_line_pairs.proofs.UnitLists.{units-left}
 use Rattle.seg_line_turns.specs.PlainTexts.{ArePlain, HasNoOpening}
 use Rattle.seg_line_turns.specs.TurnBoundaries.{turn_stretch_of, turns_within, later_turns, turn_boundaries}
 use Rattle.seg_line_turns.specs.TurnRules.{LeftUnit, left_unit, with_item, is_joined}

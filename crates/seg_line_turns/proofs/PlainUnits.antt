@@ -10,11 +10,11 @@ use Rattle.seg_pairs.specs.Walk.{Walk, walk, is_class}
 use Rattle.seg_pairs.specs.Verdict.{Verdict}
 use Rattle.seg_pairs.specs.Verdict.Verdict.{BreakAfter, GoAfter, RunBegins}
 use Rattle.seg_pairs.proofs.Walks.{walk-named, walk-stop, walk-end}
-use Rattle.seg_line_rules.specs.LineRules.{TableRules, line_class, is_complex_context}
-use Rattle.seg_line_rules.specs.LineUnits.{CountedUnit, units_from, units_of, extent_of, LineUnit, is_mark, is_glued, bears_none, is_joiner}
-use Rattle.seg_line_rules.specs.LineVerdict.{unit_classes, joined_before, begins_joined, unless, unit_stop_verdict, unit_end_verdict, unit_walk_verdict}
-use Rattle.seg_line_rules.specs.declared.engines.LineEngine.TheVariants.{Seventeen}
-use Rattle.seg_line_rules.proofs.Marks.{mark-bears}
+use Rattle.seg_line_pairs.specs.LineRules.{TableRules, line_class, is_complex_context}
+use Rattle.seg_line_pairs.specs.LineUnits.{CountedUnit, units_from, units_of, extent_of, LineUnit, is_mark, is_glued, bears_none, is_joiner}
+use Rattle.seg_line_pairs.specs.LineVerdict.{unit_classes, joined_before, begins_joined, unless, unit_stop_verdict, unit_end_verdict, unit_walk_verdict}
+use Rattle.seg_line_pairs.specs.declared.engines.LineEngine.TheVariants.{Seventeen}
+use Rattle.seg_line_pairs.proofs.Marks.{mark-bears}
 use Rattle.seg_line_turns.specs.PlainTexts.{is_quoting, ArePlain}
 use Rattle.seg_line_turns.specs.TurnRules.{LeftUnit, left_unit, with_item, is_joined}
 use Rattle.seg_line_turns.specs.TurnClasses.{is_glue, is_complex_mark, is_hyphen, is_start, is_infix, is_quote}

@@ -7,12 +7,12 @@ use Rattle.seg_text.specs.Items.{Item, Text, start_of, rest_after, text_before, 
 use Rattle.seg_text.specs.Boundaries.{boundary, boundary_in, boundaries_in, shift_all, Cuts, AreCutsOf, with_status, cut_places}
 use Rattle.seg_text.proofs.Places.{in-append, in-shift, code_points-drop}
 use Rattle.seg_pairs.proofs.Events.{cuts-placed}
-use Rattle.seg_line_rules.specs.LineRules.{TableRules, is_complex_point}
-use Rattle.seg_line_rules.specs.declared.plain_pairs.ClassedItem.{ClassedItem}
-use Rattle.seg_line_rules.specs.LineEvents.{LeavesLess, text_from}
-use Rattle.seg_line_rules.specs.ReadAhead.{TakesRun, UnreadItems, items_after, rules_of}
-use Rattle.seg_line_rules.specs.LineBoundaries.{complex_length}
-use Rattle.seg_line_rules.specs.declared.engines.LineEngine.TheVariants.{Seventeen}
+use Rattle.seg_line_pairs.specs.LineRules.{TableRules, is_complex_point}
+use Rattle.seg_line_pairs.specs.declared.plain_pairs.ClassedItem.{ClassedItem}
+use Rattle.seg_line_pairs.specs.LineEvents.{LeavesLess, text_from}
+use Rattle.seg_line_pairs.specs.ReadAhead.{TakesRun, UnreadItems, items_after, rules_of}
+use Rattle.seg_line_pairs.specs.LineBoundaries.{complex_length}
+use Rattle.seg_line_pairs.specs.declared.engines.LineEngine.TheVariants.{Seventeen}
 use Rattle.seg_line_turns.specs.declared.turn_units.Left.{Left}
 use Rattle.seg_line_turns.specs.declared.turn_units.TurnOutcome.{TurnOutcome}
 use Rattle.seg_line_turns.specs.declared.turn_units.TurnOutcome.TheVariants.{Break, Go, Run}

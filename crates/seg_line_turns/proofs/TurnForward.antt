@@ -6,11 +6,11 @@ use Rattle.seg_pairs.specs.declared.provider.pairs.BreakState.{BreakState}
 use Rattle.seg_pairs.specs.declared.provider.pairs.BreakState.TheVariants.{Break, Keep, NoMatch, Intermediate, Index}
 use Rattle.seg_pairs.specs.PairTable.{named_state, is_intermediate, entry_of}
 use Rattle.seg_pairs.specs.Walk.{is_class}
-use Rattle.seg_line_rules.specs.LineRules.{TableRules, line_class, is_complex_context}
-use Rattle.seg_line_rules.specs.LineBoundaries.{complex_length}
-use Rattle.seg_line_rules.specs.LineLists.{keeps, listed}
-use Rattle.seg_line_rules.specs.LineUnits.{is_mark, bears_none, is_joiner}
-use Rattle.seg_line_rules.specs.declared.engines.LineEngine.TheVariants.{Seventeen}
+use Rattle.seg_line_pairs.specs.LineRules.{TableRules, line_class, is_complex_context}
+use Rattle.seg_line_pairs.specs.LineBoundaries.{complex_length}
+use Rattle.seg_line_pairs.specs.LineLists.{keeps, listed}
+use Rattle.seg_line_pairs.specs.LineUnits.{is_mark, bears_none, is_joiner}
+use Rattle.seg_line_pairs.specs.declared.engines.LineEngine.TheVariants.{Seventeen}
 use Rattle.seg_line_turns.specs.TurnRules.{LeftUnit, with_item, is_joined, left_unit}
 use Rattle.seg_line_turns.specs.TurnClasses.{is_glue, is_letter, is_hyphen, is_before_quote, is_after_quote, is_before_hyphen, is_space, is_zero_space, is_infix, is_digit, is_quote, is_contingent}
 use Rattle.seg_line_turns.specs.Turns.{next_base, comes, to_base, sticks, Turn, Walking, turn_unless, walk_end_turn, walk_back_turn, walk_stop_turn, walk_begin, WalkStep, walk_step, walk_by, walk_turn, table_turn, quote_turn, list_turn, class_turn, right_turn, is_taken, opens, turn, start_unit, first_unit}

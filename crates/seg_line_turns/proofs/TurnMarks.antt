@@ -10,16 +10,16 @@ use Rattle.seg_pairs.specs.declared.provider.pairs.BreakState.TheVariants.{Break
 use Rattle.seg_pairs.specs.PairTable.{named_state, is_intermediate, IsPairTable, class_of, entry_of}
 use Rattle.seg_pairs.proofs.Pairs.{class-below, class-table}
 use Rattle.seg_pairs.specs.Walk.{is_class}
-use Rattle.seg_line_rules.specs.LineRules.{TableRules, is_complex_point, is_complex_context, is_read_as_id, line_class}
-use Rattle.seg_line_rules.specs.LineClasses.{class_number}
-use Rattle.seg_line_rules.specs.LineClasses.LineClass.{ID}
-use Rattle.seg_line_rules.specs.LineBoundaries.{KeepsMarks}
-use Rattle.seg_line_rules.specs.LineUnits.{is_mark, is_glued, bears_none, is_joiner}
-use Rattle.seg_line_rules.specs.LineLists.{keeps, listed}
-use Rattle.seg_line_rules.specs.declared.engines.LineEngine.TheVariants.{Seventeen}
-use Rattle.seg_line_rules.proofs.LineStretches.{StandInside}
-use Rattle.seg_line_rules.proofs.MarkParts.{get-drop, Parts, AllPart, all-later, all-append, run-part, keeps-later}
-use Rattle.seg_line_rules.proofs.Marks.{mark-bears}
+use Rattle.seg_line_pairs.specs.LineRules.{TableRules, is_complex_point, is_complex_context, is_read_as_id, line_class}
+use Rattle.seg_line_pairs.specs.LineClasses.{class_number}
+use Rattle.seg_line_pairs.specs.LineClasses.LineClass.{ID}
+use Rattle.seg_line_pairs.specs.LineBoundaries.{KeepsMarks}
+use Rattle.seg_line_pairs.specs.LineUnits.{is_mark, is_glued, bears_none, is_joiner}
+use Rattle.seg_line_pairs.specs.LineLists.{keeps, listed}
+use Rattle.seg_line_pairs.specs.declared.engines.LineEngine.TheVariants.{Seventeen}
+use Rattle.seg_line_pairs.proofs.LineStretches.{StandInside}
+use Rattle.seg_line_pairs.proofs.MarkParts.{get-drop, Parts, AllPart, all-later, all-append, run-part, keeps-later}
+use Rattle.seg_line_pairs.proofs.Marks.{mark-bears}
 use Rattle.seg_line_turns.specs.TurnBoundaries.{run_of, turn_stretch_of, turn_stretch, later_turns, turn_boundaries, StartsBear}
 use Rattle.seg_line_turns.specs.TurnClasses.{is_glue, is_complex_mark, is_letter, is_hyphen, is_start, is_before_quote, is_after_quote, is_before_hyphen, is_space, is_zero_space, is_infix, is_digit, is_quote, is_contingent}
 use Rattle.seg_line_turns.specs.TurnRules.{LeftUnit, with_item, is_joined, left_unit}

@@ -3,9 +3,9 @@ use Rattle.std.proofs.Common.{◌≡◌, ℕ, suc, ◌+◌, ◌-◌, true, false
 use Rattle.std.proofs.lemmas.List.{drop-drop}
 use Rattle.std.specs.Option.{option_map, option_map_or}
 use Rattle.seg_text.specs.Items.{Item, Text, start_of, rest_after, code_points}
-use Rattle.seg_line_rules.specs.LineRules.{TableRules, line_class}
-use Rattle.seg_line_rules.specs.LineUnits.{is_mark}
-use Rattle.seg_line_rules.specs.declared.engines.LineEngine.TheVariants.{Seventeen}
+use Rattle.seg_line_pairs.specs.LineRules.{TableRules, line_class}
+use Rattle.seg_line_pairs.specs.LineUnits.{is_mark}
+use Rattle.seg_line_pairs.specs.declared.engines.LineEngine.TheVariants.{Seventeen}
 use Rattle.seg_line_turns.specs.declared.bases.BaseAhead.{BaseAhead}
 use Rattle.seg_line_turns.specs.TurnPlaces.{item_place, IsBaseOf}
 use Rattle.seg_line_turns.specs.Turns.{next_base}

@@ -1,11 +1,11 @@
 -- What the sets of classes have to do with one another.
 use Rattle.std.proofs.Common.{◌≡◌, ℕ, ◌==◌, ◌||◌, Bool, true, false, [], ◌∷◌, refl, sym, ◌∙◌, map}
-use Rattle.seg_line_rules.specs.LineRules.{is_one_of, is_complex_context}
-use Rattle.seg_line_rules.specs.LineClasses.{class_number}
-use Rattle.seg_line_rules.specs.LineClasses.LineClass.{BK, CM, CM_EASTASIAN, CR, HH, HY, LF, NL, QU, QU_PF, QU_PI, SA, SA_MC_MN, SP, ZW, ZWJ}
-use Rattle.seg_line_rules.specs.LineUnits.{is_mark, bears_none}
-use Rattle.seg_line_rules.specs.declared.engines.LineEngine.TheVariants.{Seventeen}
-use Rattle.seg_line_rules.proofs.Marks.{none-among}
+use Rattle.seg_line_pairs.specs.LineRules.{is_one_of, is_complex_context}
+use Rattle.seg_line_pairs.specs.LineClasses.{class_number}
+use Rattle.seg_line_pairs.specs.LineClasses.LineClass.{BK, CM, CM_EASTASIAN, CR, HH, HY, LF, NL, QU, QU_PF, QU_PI, SA, SA_MC_MN, SP, ZW, ZWJ}
+use Rattle.seg_line_pairs.specs.LineUnits.{is_mark, bears_none}
+use Rattle.seg_line_pairs.specs.declared.engines.LineEngine.TheVariants.{Seventeen}
+use Rattle.seg_line_pairs.proofs.Marks.{none-among}
 use Rattle.seg_line_turns.specs.TurnClasses.{is_glue, is_complex_mark, is_start}
 
 bears : ℕ → Bool

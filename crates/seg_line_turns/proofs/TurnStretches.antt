@@ -7,10 +7,10 @@ use Rattle.seg_text.specs.declared.boundary.Boundary.{Boundary}
 use Rattle.seg_text.specs.Boundaries.{RisesTo, IsCover, shift_all, start, Cuts, with_status, Stretch, IsWithin}
 use Rattle.seg_text.proofs.Places.{shifted-none, shifted-twice, shifted-append}
 use Rattle.seg_text.proofs.Covers.{rises-le}
-use Rattle.seg_line_rules.specs.LineRules.{TableRules, is_complex_point}
-use Rattle.seg_line_rules.specs.LineBoundaries.{complex_length}
-use Rattle.seg_line_rules.specs.declared.engines.LineEngine.TheVariants.{Seventeen}
-use Rattle.seg_line_rules.proofs.LineStretches.{StandInside}
+use Rattle.seg_line_pairs.specs.LineRules.{TableRules, is_complex_point}
+use Rattle.seg_line_pairs.specs.LineBoundaries.{complex_length}
+use Rattle.seg_line_pairs.specs.declared.engines.LineEngine.TheVariants.{Seventeen}
+use Rattle.seg_line_pairs.proofs.LineStretches.{StandInside}
 use Rattle.seg_line_turns.specs.TurnBoundaries.{TurnStretch, run_of, turn_stretch_of, turn_stretch, AreTurns, turns_within, later_turns, turn_boundaries, HasOneTurnList}
 use Rattle.seg_line_turns.specs.Turns.{Turn, turn, first_unit}
 use Rattle.seg_line_turns.specs.Turns.Turn.{BreakAt, GoTo, RunAt}

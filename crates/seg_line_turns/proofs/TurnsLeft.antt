@@ -5,10 +5,10 @@ use Rattle.seg_text.specs.declared.boundary.Boundary.{Boundary}
 use Rattle.seg_text.specs.Items.{Item, Text, start_of, code_points, IsRising}
 use Rattle.seg_text.specs.Boundaries.{IsCover, boundary, boundary_in, boundaries_in, Cuts}
 use Rattle.seg_text.proofs.Covers.{covers-in}
-use Rattle.seg_line_rules.specs.declared.engines.LineEngine.TheVariants.{Seventeen}
-use Rattle.seg_line_rules.specs.LineBoundaries.{CutsCover, inside}
-use Rattle.seg_line_rules.specs.LineRules.{TableRules}
-use Rattle.seg_line_rules.proofs.Inside.{inside-stand}
+use Rattle.seg_line_pairs.specs.declared.engines.LineEngine.TheVariants.{Seventeen}
+use Rattle.seg_line_pairs.specs.LineBoundaries.{CutsCover, inside}
+use Rattle.seg_line_pairs.specs.LineRules.{TableRules}
+use Rattle.seg_line_pairs.proofs.Inside.{inside-stand}
 use Rattle.seg_line_turns.specs.TurnBoundaries.{later_turns, turn_boundaries}
 use Rattle.seg_line_turns.specs.TurnEvents.{UnreadTurns, unread_turns, after_cuts, whole_text}
 use Rattle.seg_line_turns.proofs.TurnStretches.{turns-cover, turns-nil}

@@ -1,9 +1,9 @@
 -- Plain texts of lines, on which the engine 17 has the boundaries of the verdicts on units.
 use Rattle.std.specs.Prelude.{◌≡◌, ℕ, ◌&&◌, Bool, false, List, [], ◌∷◌}
-use Rattle.seg_line_rules.specs.LineClasses.LineClass.{HH, HY, IS, QU, QU_PF, QU_PI, SA, SA_MC_MN}
-use Rattle.seg_line_rules.specs.declared.engines.LineEngine.TheVariants.{Seventeen}
-use Rattle.seg_line_rules.specs.LineRules.{TableRules, is_one_of, line_class}
-use Rattle.seg_line_rules.specs.LineUnits.{LineUnit}
+use Rattle.seg_line_pairs.specs.LineClasses.LineClass.{HH, HY, IS, QU, QU_PF, QU_PI, SA, SA_MC_MN}
+use Rattle.seg_line_pairs.specs.declared.engines.LineEngine.TheVariants.{Seventeen}
+use Rattle.seg_line_pairs.specs.LineRules.{TableRules, is_one_of, line_class}
+use Rattle.seg_line_pairs.specs.LineUnits.{LineUnit}
 use Rattle.seg_line_turns.specs.TurnClasses.{is_opening, is_space}
 
 -- no quotes, hyphens, infix separators and complex characters

@@ -5,10 +5,10 @@ use Rattle.seg_text.specs.Boundaries.{boundary, boundaries_in, start, shift_all,
 use Rattle.seg_text.specs.Items.{Text}
 use Rattle.seg_pairs.specs.declared.provider.pairs.BreakState.TheVariants.{Index}
 use Rattle.seg_pairs.specs.PairTable.{PairTable, entry_of}
-use Rattle.seg_line_rules.specs.LineRules.{TableRules}
-use Rattle.seg_line_rules.specs.LineBoundaries.{inside, complex_length}
-use Rattle.seg_line_rules.specs.LineUnits.{bears_none}
-use Rattle.seg_line_rules.specs.declared.engines.LineEngine.TheVariants.{Seventeen}
+use Rattle.seg_line_pairs.specs.LineRules.{TableRules}
+use Rattle.seg_line_pairs.specs.LineBoundaries.{inside, complex_length}
+use Rattle.seg_line_pairs.specs.LineUnits.{bears_none}
+use Rattle.seg_line_pairs.specs.declared.engines.LineEngine.TheVariants.{Seventeen}
 use Rattle.seg_line_turns.specs.Turns.{Turn, turn, first_unit}
 use Rattle.seg_line_turns.specs.Turns.Turn.{BreakAt, GoTo, RunAt}
 

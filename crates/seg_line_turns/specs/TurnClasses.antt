@@ -1,9 +1,9 @@
 -- The sets of classes that the rules of the engine 17 speak of.
 use Rattle.std.specs.Prelude.{ℕ, ◌==◌, Bool, [], ◌∷◌}
-use Rattle.seg_line_rules.specs.LineClasses.{class_number}
-use Rattle.seg_line_rules.specs.LineClasses.LineClass.{AI, AI_EASTASIAN, AL, AL_DOTTED_CIRCLE, AL_EASTASIAN, BK, CB, CL, CL_EASTASIAN, CM, CM_EASTASIAN, CP, CR, EX, EX_EASTASIAN, GL, GL_EASTASIAN, HH, HL, HY, IS, LF, NL, NU, OP, OP_EASTASIAN, QU, QU_PF, QU_PI, SA_MC_MN, SP, SY, WJ, XX, XX_EXTPICT, ZW, ZWJ}
-use Rattle.seg_line_rules.specs.LineRules.{is_one_of}
-use Rattle.seg_line_rules.specs.declared.engines.LineEngine.TheVariants.{Seventeen}
+use Rattle.seg_line_pairs.specs.LineClasses.{class_number}
+use Rattle.seg_line_pairs.specs.LineClasses.LineClass.{AI, AI_EASTASIAN, AL, AL_DOTTED_CIRCLE, AL_EASTASIAN, BK, CB, CL, CL_EASTASIAN, CM, CM_EASTASIAN, CP, CR, EX, EX_EASTASIAN, GL, GL_EASTASIAN, HH, HL, HY, IS, LF, NL, NU, OP, OP_EASTASIAN, QU, QU_PF, QU_PI, SA_MC_MN, SP, SY, WJ, XX, XX_EXTPICT, ZW, ZWJ}
+use Rattle.seg_line_pairs.specs.LineRules.{is_one_of}
+use Rattle.seg_line_pairs.specs.declared.engines.LineEngine.TheVariants.{Seventeen}
 
 -- a mark, or one that is complex
 unfoldable pub is_glue : ℕ → Bool

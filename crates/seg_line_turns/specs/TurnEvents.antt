@@ -6,14 +6,14 @@ use Rattle.seg_text.specs.Boundaries.{boundaries_in, Cuts}
 use Rattle.seg_pairs.specs.declared.provider.pairs.BreakState.{BreakState}
 use Rattle.seg_pairs.specs.declared.provider.pairs.BreakState.TheVariants as entries
 use Rattle.seg_pairs.specs.PairTable.{PairTable, entry_of}
-use Rattle.seg_line_rules.specs.LineEvents.{UnreadText}
-use Rattle.seg_line_rules.specs.ReadAhead.{UnreadItems, rules_of}
-use Rattle.seg_line_rules.specs.LineRules.{TableRules, is_one_of, is_complex_context}
-use Rattle.seg_line_rules.specs.declared.engines.PlainPair.{PlainPair}
-use Rattle.seg_line_rules.specs.declared.engines.PlainPair.TheVariants as plain
-use Rattle.seg_line_rules.specs.LineClasses.LineClass.{CM, CM_EASTASIAN, HH, HY, IS, QU_PF, SA, SA_MC_MN, SP, ZWJ}
-use Rattle.seg_line_rules.specs.LineUnits.{is_joiner}
-use Rattle.seg_line_rules.specs.declared.engines.LineEngine.TheVariants.{Seventeen}
+use Rattle.seg_line_pairs.specs.LineEvents.{UnreadText}
+use Rattle.seg_line_pairs.specs.ReadAhead.{UnreadItems, rules_of}
+use Rattle.seg_line_pairs.specs.LineRules.{TableRules, is_one_of, is_complex_context}
+use Rattle.seg_line_pairs.specs.declared.engines.PlainPair.{PlainPair}
+use Rattle.seg_line_pairs.specs.declared.engines.PlainPair.TheVariants as plain
+use Rattle.seg_line_pairs.specs.LineClasses.LineClass.{CM, CM_EASTASIAN, HH, HY, IS, QU_PF, SA, SA_MC_MN, SP, ZWJ}
+use Rattle.seg_line_pairs.specs.LineUnits.{is_joiner}
+use Rattle.seg_line_pairs.specs.declared.engines.LineEngine.TheVariants.{Seventeen}
 use Rattle.seg_line_turns.specs.TurnBoundaries.{later_turns, has_none}
 use Rattle.seg_line_turns.specs.TurnClasses.{is_before_hyphen, is_before_quote, is_glue, is_hyphen, is_infix, is_opening, is_quote, is_space}
 

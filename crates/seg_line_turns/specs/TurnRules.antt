@@ -1,8 +1,8 @@
 -- What turns look at on the left.
 use Rattle.std.specs.Prelude.{ℕ, Bool, suc}
-use Rattle.seg_line_rules.specs.LineRules.{TableRules, line_class}
-use Rattle.seg_line_rules.specs.LineUnits.{is_joiner}
-use Rattle.seg_line_rules.specs.declared.engines.LineEngine.TheVariants.{Seventeen}
+use Rattle.seg_line_pairs.specs.LineRules.{TableRules, line_class}
+use Rattle.seg_line_pairs.specs.LineUnits.{is_joiner}
+use Rattle.seg_line_pairs.specs.declared.engines.LineEngine.TheVariants.{Seventeen}
 
 -- An item, and the marks that are glued to it: what a turn looks at from the left.
 

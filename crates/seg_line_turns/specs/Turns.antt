@@ -5,12 +5,12 @@ use Rattle.seg_pairs.specs.declared.provider.pairs.BreakState.{BreakState}
 use Rattle.seg_pairs.specs.declared.provider.pairs.BreakState.TheVariants.{Break, Keep, NoMatch, Intermediate, Index}
 use Rattle.seg_pairs.specs.PairTable.{named_state, is_intermediate, PairTable, entry_of}
 use Rattle.seg_pairs.specs.Walk.{is_class}
-use Rattle.seg_line_rules.specs.LineRules.{TableRules, is_complex_context, line_class}
-use Rattle.seg_line_rules.specs.LineClasses.{class_number}
-use Rattle.seg_line_rules.specs.LineClasses.LineClass.{AL}
-use Rattle.seg_line_rules.specs.LineUnits.{is_mark, bears_none, is_joiner}
-use Rattle.seg_line_rules.specs.LineLists.{keeps, listed}
-use Rattle.seg_line_rules.specs.declared.engines.LineEngine.TheVariants.{Seventeen}
+use Rattle.seg_line_pairs.specs.LineRules.{TableRules, is_complex_context, line_class}
+use Rattle.seg_line_pairs.specs.LineClasses.{class_number}
+use Rattle.seg_line_pairs.specs.LineClasses.LineClass.{AL}
+use Rattle.seg_line_pairs.specs.LineUnits.{is_mark, bears_none, is_joiner}
+use Rattle.seg_line_pairs.specs.LineLists.{keeps, listed}
+use Rattle.seg_line_pairs.specs.declared.engines.LineEngine.TheVariants.{Seventeen}
 use Rattle.seg_line_turns.specs.TurnClasses.{is_glue, is_complex_mark, is_letter, is_hyphen, is_opening, is_start, is_before_quote, is_after_quote, is_before_hyphen, is_space, is_zero_space, is_infix, is_digit, is_quote, is_contingent}
 use Rattle.seg_line_turns.specs.TurnRules.{LeftUnit, left_unit, with_item, is_joined}
 

@@ -1,7 +1,7 @@
 //! The first item ahead that is no mark.
 ghost use Rattle.std.specs.Prelude.{◌≡◌, ℕ, suc, ◌+◌, not};
 ghost use Rattle.seg_text.specs.Items.{Text, code_points, rest_after};
-ghost use Rattle.seg_line_rules.specs.LineBoundaries.{rules_by};
+ghost use Rattle.seg_line_pairs.specs.LineBoundaries.{rules_by};
 ghost use Rattle.seg_line_turns.specs.TurnPlaces.{IsBaseOf, item_place, placed};
 ghost use Rattle.seg_line_turns.specs.TurnClasses.{is_after_quote, is_digit, is_hyphen, is_letter};
 ghost use Rattle.seg_line_turns.specs.Turns.{begins_marked, comes, to_base};
@@ -10,9 +10,9 @@ ghost use Rattle.seg_line_turns.specs.Turns.Turn.{BreakAt, GoTo};
 use crate::classes::{is_after_quote, is_hyphen, is_letter};
 use crate::engine_17::Engine17;
 use crate::turn_units::TurnOutcome;
-use seg_line_rules::classes::is_mark;
-use seg_line_rules::engines::LineEngine;
-use seg_line_rules::line_pairs::LinePairs;
+use seg_line_pairs::classes::is_mark;
+use seg_line_pairs::engines::LineEngine;
+use seg_line_pairs::line_pairs::LinePairs;
 use seg_pairs::provider::RuleBreakData;
 use seg_text::cursor::Cursor;
 

@@ -4,13 +4,13 @@ ghost use Rattle.seg_text.specs.Items.{start_of};
 ghost use Rattle.seg_text.specs.Boundaries.{IsCover};
 ghost use Rattle.seg_clusters.specs.Payloads.{payloads_of, run_cuts_by};
 ghost use Rattle.seg_line_turns.specs.TurnBoundaries.{turn_boundaries_of};
-ghost use Rattle.seg_line_rules.specs.LineBoundaries.{rules_by};
+ghost use Rattle.seg_line_pairs.specs.LineBoundaries.{rules_by};
 
 use crate::engine_17::Engine17;
 use crate::turn_events::TurnEvents;
 use seg_clusters::complex::ComplexPayloadsBorrowed;
-use seg_line_rules::boundaries::TableLines;
-use seg_line_rules::line_pairs::LinePairs;
+use seg_line_pairs::boundaries::TableLines;
+use seg_line_pairs::line_pairs::LinePairs;
 use seg_text::cursor::Cursor;
 
 /// The boundaries of lines in what is left of a text by the engine 17. Takes no memory.

@@ -1,11 +1,11 @@
 //! The engine 17, and the pairs of classes between which its table alone decides: most turns are by these.
 ghost use Rattle.std.specs.Prelude.{◌≡◌};
-ghost use Rattle.seg_line_rules.specs.declared.engines.LineEngine.TheVariants.{Seventeen};
+ghost use Rattle.seg_line_pairs.specs.declared.engines.LineEngine.TheVariants.{Seventeen};
 ghost use Rattle.seg_line_turns.specs.TurnEvents.{is_asked, is_before_sign, is_plain_turn, is_sign, is_unanswered, plain_turn};
 
 use crate::classes::{is_before_hyphen, is_before_quote, is_glue, is_hyphen, is_opening};
-use seg_line_rules::classes::{is_complex_context, is_joiner};
-use seg_line_rules::engines::{LineEngine, PairEngine, PlainPair};
+use seg_line_pairs::classes::{is_complex_context, is_joiner};
+use seg_line_pairs::engines::{LineEngine, PairEngine, PlainPair};
 use seg_pairs::provider::{BreakState, RuleBreakData};
 use seg_pairs::walk::entry_after;
 

@@ -3,15 +3,15 @@
 //! after an opening are seen from afar, as by the sample data in a space, a hyphen and a letter.
 ghost use Rattle.std.specs.Prelude.{◌≡◌, ℕ, List, length};
 ghost use Rattle.seg_text.specs.Boundaries.{IsCover, Cuts};
-ghost use Rattle.seg_line_rules.specs.LineBoundaries.{CutsCover, KeepsMarks, inside, line_boundaries, rules_by};
-ghost use Rattle.seg_line_rules.specs.LineUnits.{counted_units, units_of};
-ghost use Rattle.seg_line_rules.specs.declared.engines.LineEngine.TheVariants.{Seventeen};
-ghost use Rattle.seg_line_rules.specs.LineRules.{TableRules};
+ghost use Rattle.seg_line_pairs.specs.LineBoundaries.{CutsCover, KeepsMarks, inside, line_boundaries, rules_by};
+ghost use Rattle.seg_line_pairs.specs.LineUnits.{counted_units, units_of};
+ghost use Rattle.seg_line_pairs.specs.declared.engines.LineEngine.TheVariants.{Seventeen};
+ghost use Rattle.seg_line_pairs.specs.LineRules.{TableRules};
 ghost use Rattle.seg_line_turns.specs.PlainTexts.{ArePlain, HasNoOpening};
 ghost use Rattle.seg_line_turns.specs.TurnBoundaries.{HasOneTurnList, turn_boundaries, StartsBear};
 
 use crate::engine_17::Engine17;
-use seg_line_rules::line_pairs::LinePairs;
+use seg_line_pairs::line_pairs::LinePairs;
 
 /// Law: a list of code points has exactly one list of boundaries: the first is at its start, and the others come from the first turn of what
 /// is left, again and again.

@@ -3,14 +3,14 @@
 ghost use Rattle.std.specs.Prelude.{◌≡◌, []};
 ghost use Rattle.seg_text.specs.Items.{start_of};
 ghost use Rattle.seg_line_turns.specs.TurnEvents.{whole_text};
-ghost use Rattle.seg_line_rules.specs.LineBoundaries.{rules_by};
+ghost use Rattle.seg_line_pairs.specs.LineBoundaries.{rules_by};
 
 use crate::engine_17::Engine17;
 use crate::turn_units::TurnOutcome;
 use crate::turns::{first_unit, turn};
-use seg_line_rules::events::{LineEvent, LineSource};
-use seg_line_rules::line_pairs::LinePairs;
-use seg_line_rules::read_ahead::ReadAhead;
+use seg_line_pairs::events::{LineEvent, LineSource};
+use seg_line_pairs::line_pairs::LinePairs;
+use seg_line_pairs::read_ahead::ReadAhead;
 use seg_text::cursor::Cursor;
 use std::marker::Model;
 

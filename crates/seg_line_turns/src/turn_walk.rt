@@ -2,7 +2,7 @@
 ghost use Rattle.std.specs.Prelude.{◌≡◌, ◌<◌, ℕ, suc};
 ghost use Rattle.seg_text.specs.Items.{Text, code_points};
 ghost use Rattle.seg_pairs.specs.PairTable.{entry_of};
-ghost use Rattle.seg_line_rules.specs.LineBoundaries.{rules_by};
+ghost use Rattle.seg_line_pairs.specs.LineBoundaries.{rules_by};
 ghost use Rattle.seg_line_turns.specs.TurnPlaces.{IsWalkAt, item_place, placed, step_at, walker_seen, IsBelowState};
 ghost use Rattle.seg_line_turns.specs.Turns.{space_step, sticks, walk_back_turn, walk_end_turn, walk_entry_step, walk_step, walk_stop_turn, walk_turn};
 
@@ -10,9 +10,9 @@ use crate::bases::{go_to_base, letter_comes};
 use crate::classes::{is_glue, is_hyphen};
 use crate::engine_17::Engine17;
 use crate::turn_units::{TurnOutcome, unless};
-use seg_line_rules::classes::{bears_none, is_joiner};
-use seg_line_rules::engines::LineEngine;
-use seg_line_rules::line_pairs::LinePairs;
+use seg_line_pairs::classes::{bears_none, is_joiner};
+use seg_line_pairs::engines::LineEngine;
+use seg_line_pairs::line_pairs::LinePairs;
 use seg_pairs::provider::{BreakState, RuleBreakData};
 use seg_pairs::walk::{entry_after, entry_at_end, is_class, saves, state_named};
 use seg_text::cursor::Cursor;

@@ -2,9 +2,9 @@
 ghost use Rattle.std.specs.Prelude.{◌≡◌, ◌<◌, ℕ, suc};
 ghost use Rattle.seg_text.specs.Items.{Text, code_points, rest_after};
 ghost use Rattle.seg_pairs.specs.PairTable.{entry_of};
-ghost use Rattle.seg_line_rules.specs.LineEvents.{HasClass};
-ghost use Rattle.seg_line_rules.specs.LineRules.{line_class};
-ghost use Rattle.seg_line_rules.specs.LineBoundaries.{rules_by};
+ghost use Rattle.seg_line_pairs.specs.LineEvents.{HasClass};
+ghost use Rattle.seg_line_pairs.specs.LineRules.{line_class};
+ghost use Rattle.seg_line_pairs.specs.LineBoundaries.{rules_by};
 ghost use Rattle.seg_line_turns.specs.TurnPlaces.{FindsBetween, FindsFrom, class_at_start, hyphen_outcome, item_place, left_seen, placed};
 ghost use Rattle.seg_line_turns.specs.Turns.{class_turn, first_unit, is_taken, opens, quote_turn, right_turn, table_turn, turn};
 
@@ -15,11 +15,11 @@ use crate::classes::{is_before_hyphen, is_before_quote, is_glue, is_hyphen, is_o
 use crate::engine_17::Engine17;
 use crate::turn_units::{Left, TurnOutcome, unless};
 use crate::turn_walk::{Walker, walk};
-use seg_line_rules::classes::{bears_none, is_complex_context, is_joiner};
-use seg_line_rules::engines::LineEngine;
-use seg_line_rules::line_pairs::LinePairs;
-use seg_line_rules::lists::{Neighbours, keeps, listed};
-use seg_line_rules::plain_pairs::ClassedItem;
+use seg_line_pairs::classes::{bears_none, is_complex_context, is_joiner};
+use seg_line_pairs::engines::LineEngine;
+use seg_line_pairs::line_pairs::LinePairs;
+use seg_line_pairs::lists::{Neighbours, keeps, listed};
+use seg_line_pairs::plain_pairs::ClassedItem;
 use seg_pairs::provider::{BreakState, RuleBreakData};
 use seg_pairs::walk::{entry_after, entry_at_start, is_class, state_named};
 use seg_text::cursor::Cursor;

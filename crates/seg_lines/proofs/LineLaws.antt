@@ -22,12 +22,12 @@ use Rattle.seg_clusters.proofs.EqualSpans.{same-inner-cuts}
 use Rattle.seg_clusters.proofs.EqualWords.{same-run-cuts}
 use Rattle.seg_clusters.proofs.SpanStretches.{span-some}
 use Rattle.seg_clusters.proofs.UnwordedSpans.{inner-none}
-use Rattle.seg_line_rules.specs.declared.line_pairs.LinePairs.{LinePairs}
-use Rattle.seg_line_rules.specs.LineBoundaries.{inside, line_boundaries, line_stretch, rules_by, KeepsMarks}
-use Rattle.seg_line_rules.specs.LineRules.{TableRules}
-use Rattle.seg_line_rules.specs.declared.engines.LineEngine.TheVariants.{Seventeen, Classic}
-use Rattle.seg_line_rules.proofs.LineRestarts.{line-restarts}
-use Rattle.seg_line_rules.proofs.LineStretches.{line-going}
+use Rattle.seg_line_pairs.specs.declared.line_pairs.LinePairs.{LinePairs}
+use Rattle.seg_line_pairs.specs.LineBoundaries.{inside, line_boundaries, line_stretch, rules_by, KeepsMarks}
+use Rattle.seg_line_pairs.specs.LineRules.{TableRules}
+use Rattle.seg_line_pairs.specs.declared.engines.LineEngine.TheVariants.{Seventeen, Classic}
+use Rattle.seg_line_pairs.proofs.LineRestarts.{line-restarts}
+use Rattle.seg_line_pairs.proofs.LineStretches.{line-going}
 use Rattle.seg_line_turns.specs.TurnBoundaries.{turn_boundaries, StartsBear}
 use Rattle.seg_line_turns.proofs.TurnStretches.{one-list}
 use Rattle.seg_lines.specs.LineBreaks.{joined, AreBoundariesWith, HasCertainLines, HasCertainLinesWith, HasOneList, LineFinder, LineRules, LinesAreCertain, LinesAreCertainWith, MayRestart, boundaries_with, line_boundaries_by, lines_with_words}

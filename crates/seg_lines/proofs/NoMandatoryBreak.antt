@@ -8,9 +8,9 @@ use Rattle.seg_pairs.specs.Verdict.{Verdict}
 use Rattle.seg_pairs.specs.Verdict.Verdict.{BreakAfter, GoAfter, RunBegins}
 use Rattle.seg_clusters.specs.Rules.{boundaries_by}
 use Rattle.seg_clusters.specs.Payloads.{Payloads, run_cuts_by}
-use Rattle.seg_line_rules.specs.LineBoundaries.{inside, line_stretch, line_stretch_of, line_verdict}
-use Rattle.seg_line_rules.specs.LineRules.{TableRules}
-use Rattle.seg_line_rules.specs.declared.engines.LineEngine.TheVariants.{Seventeen, Classic}
+use Rattle.seg_line_pairs.specs.LineBoundaries.{inside, line_stretch, line_stretch_of, line_verdict}
+use Rattle.seg_line_pairs.specs.LineRules.{TableRules}
+use Rattle.seg_line_pairs.specs.declared.engines.LineEngine.TheVariants.{Seventeen, Classic}
 use Rattle.seg_line_turns.specs.TurnBoundaries.{later_turns, turn_stretch_of, turn_stretch, turns_within}
 use Rattle.seg_line_turns.specs.Turns.{Turn, first_unit, turn}
 use Rattle.seg_line_turns.specs.Turns.Turn.{BreakAt, GoTo, RunAt}

@@ -13,11 +13,11 @@ use Rattle.seg_clusters.specs.Rules.{boundaries_by, first_stretch, machine_in, R
 use Rattle.seg_clusters.specs.Rules.Rules.{ByMachine as ByClusterMachine, ByTable as ByClusterTable}
 use Rattle.seg_clusters.specs.Spans.{inner_cuts, inner_stretch, IsOutsideRuns}
 use Rattle.seg_clusters.specs.Payloads.{Payloads, run_cuts_by}
-use Rattle.seg_line_rules.specs.declared.options.LineBreakStrictness.{LineBreakStrictness}
-use Rattle.seg_line_rules.specs.declared.options.LineBreakStrictness.TheVariants as strictness
-use Rattle.seg_line_rules.specs.LineBoundaries.{HasComplexCodePoint, inside, line_boundaries, line_stretch}
-use Rattle.seg_line_rules.specs.LineRules.{TableRules}
-use Rattle.seg_line_rules.specs.declared.engines.LineEngine.TheVariants.{Seventeen, Classic}
+use Rattle.seg_line_pairs.specs.declared.options.LineBreakStrictness.{LineBreakStrictness}
+use Rattle.seg_line_pairs.specs.declared.options.LineBreakStrictness.TheVariants as strictness
+use Rattle.seg_line_pairs.specs.LineBoundaries.{HasComplexCodePoint, inside, line_boundaries, line_stretch}
+use Rattle.seg_line_pairs.specs.LineRules.{TableRules}
+use Rattle.seg_line_pairs.specs.declared.engines.LineEngine.TheVariants.{Seventeen, Classic}
 use Rattle.seg_line_turns.specs.TurnBoundaries.{AreTurnBoundaries, turn_boundaries}
 use Rattle.seg_lines.specs.declared.joined.First.{First}
 use Rattle.seg_lines.specs.declared.joined.First.TheVariants as firsts

@@ -13,7 +13,7 @@ use Rattle.seg_clusters.specs.Rules.Rules.{ByMachine as ByClusterMachine}
 use Rattle.seg_clusters.specs.declared.grapheme.GraphemeClusterSegmenter.{GraphemeClusterSegmenter}
 use Rattle.seg_clusters.specs.Clusters.{owned_cluster_rules}
 use Rattle.seg_clusters.specs.Payloads.{payloads_of}
-use Rattle.seg_line_rules.specs.LineBoundaries.{owned_rules_by, rules_by}
+use Rattle.seg_line_pairs.specs.LineBoundaries.{owned_rules_by, rules_by}
 use Rattle.seg_lines.specs.declared.finder.Finder.{Finder}
 use Rattle.seg_lines.specs.declared.finder.Finder.TheVariants.{Clusters as LentClusters, Places as LentPlaces, Table as LentTable, Turns as LentTurns, Machine as LentMachine}
 use Rattle.seg_lines.specs.declared.finder.OwnedFinder.{OwnedFinder}

@@ -3,12 +3,12 @@ use Rattle.std.specs.Prelude.{Bool, true, false, Some, None, Option}
 use Rattle.std.specs.Option.{option_map}
 use Rattle.std.specs.Borrow.{Bor}
 use Rattle.seg_machine.specs.Machine.{MachineTailoring}
-use Rattle.seg_line_rules.specs.declared.options.LineBreakOptions.{LineBreakOptions}
-use Rattle.seg_line_rules.specs.declared.options.LineBreakStrictness.{LineBreakStrictness}
-use Rattle.seg_line_rules.specs.declared.options.LineBreakStrictness.TheVariants as strictness
-use Rattle.seg_line_rules.specs.declared.options.LineBreakWordOption.{LineBreakWordOption}
-use Rattle.seg_line_rules.specs.declared.options.LineBreakWordOption.TheVariants as word_option
-use Rattle.seg_line_rules.specs.LineRules.{style_of}
+use Rattle.seg_line_pairs.specs.declared.options.LineBreakOptions.{LineBreakOptions}
+use Rattle.seg_line_pairs.specs.declared.options.LineBreakStrictness.{LineBreakStrictness}
+use Rattle.seg_line_pairs.specs.declared.options.LineBreakStrictness.TheVariants as strictness
+use Rattle.seg_line_pairs.specs.declared.options.LineBreakWordOption.{LineBreakWordOption}
+use Rattle.seg_line_pairs.specs.declared.options.LineBreakWordOption.TheVariants as word_option
+use Rattle.seg_line_pairs.specs.LineRules.{style_of}
 use Rattle.seg_lines.specs.declared.line.options.Tailoring.TheVariants as tailoring
 use Rattle.seg_lines.specs.declared.line.options.MachineChoice.{MachineChoice}
 use Rattle.seg_lines.specs.declared.line.options.MachineChoice.TheVariants.{Clusters, Lines}

@@ -1,14 +1,14 @@
 //! What the breaks of lines are found by.
 
 ghost use Rattle.std.specs.Prelude.{◌≡◌};
-ghost use Rattle.seg_line_rules.specs.LineBoundaries.{owned_rules_by, rules_by};
+ghost use Rattle.seg_line_pairs.specs.LineBoundaries.{owned_rules_by, rules_by};
 ghost use Rattle.seg_lines.specs.LineBreaks.LineFinder.{ByTable, ByTurns};
 ghost use Rattle.seg_lines.specs.LineBreaks.{unless_anywhere};
 ghost use Rattle.seg_lines.specs.Lines.{finder_of, owned_finder};
 
-use seg_line_rules::classic::ClassicEngine;
-use seg_line_rules::line_pairs::{LinePairs, OwnedLinePairs};
-use seg_line_rules::options::LineBreakStrictness;
+use seg_line_pairs::classic::ClassicEngine;
+use seg_line_pairs::line_pairs::{LinePairs, OwnedLinePairs};
+use seg_line_pairs::options::LineBreakStrictness;
 use seg_line_turns::engine_17::Engine17;
 use seg_machine::tailored_machine::{TailoredMachine, TailoredMachineBorrowed};
 

@@ -5,7 +5,7 @@ ghost use Rattle.seg_machine.specs.Scan.{place_for};
 use seg_machine::provider::Lookahead;
 
 /// For each lookahead the place of the last state that named it.
-pub(crate) trait Places: Drop {
+pub(crate) trait KeptPlaces: Drop {
     ghost kept: { Self → List (Option ℕ) };
 
     /// The place for a lookahead, if one is kept.
@@ -21,7 +21,7 @@ pub(crate) trait Places: Drop {
 #[derive(Clone, Copy)]
 pub(crate) struct NoPlaces;
 
-impl Places for NoPlaces {
+impl KeptPlaces for NoPlaces {
     ghost kept = { λ _. [] };
 
     #[inline(always)]
@@ -37,7 +37,7 @@ impl Places for NoPlaces {
 #[derive(Clone, Copy)]
 pub(crate) struct OnePlace(pub(crate) Option<usize>);
 
-impl Places for OnePlace {
+impl KeptPlaces for OnePlace {
     ghost kept = { λ s. s.0 ∷ [] };
 
     #[inline(always)]
@@ -55,7 +55,7 @@ impl Places for OnePlace {
 #[derive(Clone, Copy)]
 pub(crate) struct EightPlaces(pub(crate) [Option<usize>; 8]);
 
-impl Places for EightPlaces {
+impl KeptPlaces for EightPlaces {
     ghost kept = { λ s. s.0 };
 
     fn place_for(&self, lookahead: Lookahead) -> Option<usize> {

@@ -15,7 +15,7 @@ ghost use Rattle.seg_machine.specs.Scan.{acceptance_at, condition_end, places_af
 ghost use Rattle.seg_rows.specs.Underway.{IsScannedTo};
 
 use crate::buffers::{Filled, fill_both, fill_places, put_first};
-use crate::places::{EightPlaces, NoPlaces, OnePlace, Places};
+use crate::places::{EightPlaces, KeptPlaces, NoPlaces, OnePlace};
 use seg_machine::provider::{
     Acceptance, CONTINUES, Lookahead, SegmenterStateMachine, State, Symbol,
 };
@@ -248,7 +248,7 @@ pub(crate) fn next_segment<I: Cursor>(
 /// Finds the pick of what is left of a text: where the segment ends, and its status. Gives where the symbol stands that was
 /// looked up last, or comes next: that is `ahead` then. `kept` has places for the machine's lookaheads.
 #[inline(always)]
-fn scan<I: Cursor, P: Places>(
+fn scan<I: Cursor, P: KeptPlaces>(
     machine: &TailoredMachineBorrowed<'_>,
     rest: &I,
     ahead: &mut Ahead<I>,
@@ -337,7 +337,7 @@ fn next_symbol<I: Cursor>(machine: &TailoredMachineBorrowed<'_>, iter: &mut I) -
 
 /// Does what `enter` does. Most states only accept or only go on, and one byte tells that.
 #[inline(always)]
-fn pass<P: Places>(
+fn pass<P: KeptPlaces>(
     machine: &TailoredMachineBorrowed<'_>,
     state: State,
     place: usize,
@@ -367,7 +367,7 @@ fn pass<P: Places>(
 /// Else an acceptance is remembered, and the place is kept for the lookahead that the state names.
 #[inline(always)]
 #[tactic(auto, unfolding(seg_machine::specs::Scan::condition_end, seg_machine::specs::Scan::acceptance_after, seg_machine::specs::Scan::places_after))]
-fn enter<P: Places>(
+fn enter<P: KeptPlaces>(
     state: (Acceptance, Option<Lookahead>),
     place: usize,
     kept: &mut P,

@@ -2,8 +2,8 @@
 ghost use Rattle.std.specs.Prelude.{◌≡◌};
 ghost use Rattle.seg_lines.specs.Options.{machine_choice, machine_for};
 
-use seg_line_rules::options::LineStyle;
-pub use seg_line_rules::options::{LineBreakOptions, LineBreakStrictness, LineBreakWordOption};
+use seg_line_pairs::options::LineStyle;
+pub use seg_line_pairs::options::{LineBreakOptions, LineBreakStrictness, LineBreakWordOption};
 
 /// A tailoring of the line machine, by its name.
 #[derive(Clone, Copy, PartialEq, Eq)]

@@ -1,7 +1,7 @@
 use Rattle.std.proofs.Common.{Some, refl, sym, ap, ◌∙◌}
-use Rattle.seg_line_rules.specs.LineUnits.{is_mark}
-use Rattle.seg_line_rules.specs.declared.engines.LineEngine.TheVariants.{Seventeen}
-use Rattle.seg_line_rules.specs.LineBoundaries.{rules_by}
+use Rattle.seg_line_pairs.specs.LineUnits.{is_mark}
+use Rattle.seg_line_pairs.specs.declared.engines.LineEngine.TheVariants.{Seventeen}
+use Rattle.seg_line_pairs.specs.LineBoundaries.{rules_by}
 use Rattle.seg_line_turns.proofs.TurnPlaces.{looking-end, looking-found, looking-next}
 use Rattle.seg_line_turns.proofs.bases.base_ahead.Goals as goal
 

@@ -1,5 +1,5 @@
 use Rattle.std.proofs.Common.{length}
-use Rattle.seg_line_rules.specs.LineBoundaries.{rules_by}
+use Rattle.seg_line_pairs.specs.LineBoundaries.{rules_by}
 use Rattle.seg_line_turns.proofs.TurnPlaces.{IsLooking}
 use Rattle.seg_line_turns.proofs.bases.base_ahead.Given as goal
 

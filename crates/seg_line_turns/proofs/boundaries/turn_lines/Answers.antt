@@ -1,6 +1,6 @@
 use Rattle.std.proofs.Common.{◌∙◌}
 use Rattle.seg_clusters.specs.Payloads.{payloads_of, run_cuts_by}
-use Rattle.seg_line_rules.specs.LineBoundaries.{inside, rules_by}
+use Rattle.seg_line_pairs.specs.LineBoundaries.{inside, rules_by}
 use Rattle.seg_line_turns.proofs.TurnsLeft.{turns-text-cover, turns-whole}
 use Rattle.seg_line_turns.proofs.boundaries.turn_lines.Goals as goal
 

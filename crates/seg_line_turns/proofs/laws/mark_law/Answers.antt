@@ -1,5 +1,5 @@
-use Rattle.seg_line_rules.specs.LineBoundaries.{inside, rules_by}
-use Rattle.seg_line_rules.proofs.Inside.{inside-stand}
+use Rattle.seg_line_pairs.specs.LineBoundaries.{inside, rules_by}
+use Rattle.seg_line_pairs.proofs.Inside.{inside-stand}
 use Rattle.seg_line_turns.proofs.TurnMarks.{class-below-count, turns-keep}
 use Rattle.seg_line_turns.proofs.laws.mark_law.Goals as goal
 

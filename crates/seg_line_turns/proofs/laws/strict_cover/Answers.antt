@@ -1,5 +1,5 @@
-use Rattle.seg_line_rules.specs.LineBoundaries.{inside}
-use Rattle.seg_line_rules.proofs.Inside.{inside-stand}
+use Rattle.seg_line_pairs.specs.LineBoundaries.{inside}
+use Rattle.seg_line_pairs.proofs.Inside.{inside-stand}
 use Rattle.seg_line_turns.proofs.TurnStretches.{turns-cover}
 use Rattle.seg_line_turns.proofs.laws.strict_cover.Goals as goal
 

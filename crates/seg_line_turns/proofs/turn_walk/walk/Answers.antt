@@ -1,4 +1,4 @@
-use Rattle.seg_line_rules.specs.LineBoundaries.{rules_by}
+use Rattle.seg_line_pairs.specs.LineBoundaries.{rules_by}
 use Rattle.seg_line_turns.proofs.TurnReads.{walking-end, walking-goes, walking-stops}
 use Rattle.seg_line_turns.proofs.turn_walk.walk.Goals as goal
 

@@ -1,6 +1,6 @@
 use Rattle.std.proofs.Common.{◌<◌, ℕ, length}
 use Rattle.seg_text.specs.Items.{Text, code_points}
-use Rattle.seg_line_rules.specs.LineBoundaries.{rules_by}
+use Rattle.seg_line_pairs.specs.LineBoundaries.{rules_by}
 use Rattle.seg_line_turns.specs.TurnPlaces.{IsWalkAt, walker_seen}
 use Rattle.seg_line_turns.specs.Turns.{walk_turn}
 use Rattle.seg_line_turns.proofs.TurnReads.{IsWalking}

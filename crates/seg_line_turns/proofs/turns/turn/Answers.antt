@@ -1,6 +1,6 @@
 use Rattle.std.proofs.Common.{◌≡◌, ◌||◌, ℕ, refl, ap, ◌∙◌}
-use Rattle.seg_line_rules.specs.LineRules.{line_class}
-use Rattle.seg_line_rules.specs.LineBoundaries.{rules_by}
+use Rattle.seg_line_pairs.specs.LineRules.{line_class}
+use Rattle.seg_line_pairs.specs.LineBoundaries.{rules_by}
 use Rattle.seg_line_turns.specs.TurnPlaces.{left_seen}
 use Rattle.seg_line_turns.specs.Turns.{opens, is_taken}
 use Rattle.seg_line_turns.proofs.TurnReads.{or-first, or-second, turning-end, turning-right, turning-taken}

@@ -1,6 +1,6 @@
 use Rattle.std.proofs.Common.{sym, ap, ◌∙◌, subst}
 use Rattle.seg_clusters.specs.Payloads.{payloads_of, run_cuts_by}
-use Rattle.seg_line_rules.specs.LineBoundaries.{rules_by, KeepsMarks}
+use Rattle.seg_line_pairs.specs.LineBoundaries.{rules_by, KeepsMarks}
 use Rattle.seg_lines.specs.declared.finder.Finder.{Finder}
 use Rattle.seg_lines.specs.LineBreaks.{boundaries_with}
 use Rattle.seg_lines.specs.Lines.{finder_of}

@@ -1,6 +1,6 @@
 use Rattle.std.proofs.Common.{ap, ◌∙◌}
 use Rattle.seg_clusters.specs.Payloads.{payloads_of, run_cuts_by}
-use Rattle.seg_line_rules.specs.LineBoundaries.{inside}
+use Rattle.seg_line_pairs.specs.LineBoundaries.{inside}
 use Rattle.seg_lines.specs.LineBreaks.{LineFinder, boundaries_with}
 use Rattle.seg_lines.proofs.laws.plain_texts.Goals as goal
 

@@ -1,6 +1,6 @@
 use Rattle.std.proofs.Common.{refl}
-use Rattle.seg_line_rules.specs.LineBoundaries.{rules_by}
-use Rattle.seg_line_rules.proofs.LineEvents.{not-empty}
+use Rattle.seg_line_pairs.specs.LineBoundaries.{rules_by}
+use Rattle.seg_line_pairs.proofs.LineEvents.{not-empty}
 use Rattle.seg_line_turns.specs.TurnEvents.{turns_of}
 use Rattle.seg_line_turns.proofs.TurnEvents.{break-goes, break-leads, break-of, go-goes, go-leads, go-of, run-goes, run-leads-to, run-of}
 use Rattle.seg_line_turns.proofs.TurnsLeft.{nothing-unread}

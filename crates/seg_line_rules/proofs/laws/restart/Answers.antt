@@ -1,6 +1,0 @@
-use Rattle.seg_line_rules.specs.LineBoundaries.{rules_by}
-use Rattle.seg_line_rules.proofs.LineRestarts.{line-restarts}
-use Rattle.seg_line_rules.proofs.laws.restart.Goals as goal
-
-pub returns : goal.returns
-returns c = line-restarts (rules_by c.args.pairs)
