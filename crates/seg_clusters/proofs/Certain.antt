@@ -1,5 +1,5 @@
 -- At a certain place each list has a boundary: no scan passes it, and each segment takes some code points.
-use Rattle.std.proofs.Common.{◌≡◌, ◌≢◌, ℕ, zero, suc, ◌+◌, ◌-◌, ◌<◌, ◌≤◌, List, [], ◌∷◌, ◌++◌, length, drop, replicate, slice_get, Contains, refl, sym, ap, ap₂, ◌∙◌, subst, inl, inr, arith, append_assoc, length-append}
+use Rattle.std.proofs.Common.{◌≡◌, ◌≢◌, ℕ, zero, suc, ◌+◌, ◌-◌, ◌<◌, ◌≤◌, List, [], ◌∷◌, ◌++◌, length, drop, replicate, slice_get, Contains, refl, sym, ap, ◌∙◌, subst, inl, inr, arith, append_assoc, length-append}
 use Rattle.std.specs.Prelude.{Option, Some, None, IsSome, IfSome, MatchOption}
 use Rattle.std.specs.Option.{option_map, option_map_or}
 use Rattle.std.proofs.lemmas.Bool.{cases_eq}
@@ -24,13 +24,13 @@ use Rattle.seg_clusters.specs.Rules.{Rules, boundaries_by}
 use Rattle.seg_clusters.specs.Rules.Rules.{ByMachine}
 
 -- what holds of an option holds of what it is
-if-some : {A : Type 0} (found : Option A) (holds : A → Type 0) (x : A) → IfSome found holds → found ≡ Some x → holds x
+pub if-some : {A : Type 0} (found : Option A) (holds : A → Type 0) (x : A) → IfSome found holds → found ≡ Some x → holds x
 if-some {A} found holds x if is = subst (λ (found : Option A). IfSome found holds) is if
 
 -- ---- scans
 
 -- one that stops between two symbols enters one state at most
-stops-short : (m : Machine) (one other : ℕ) (rest : List ℕ) (state : ℕ) → StopsBetween m state one other → length (run m state (one ∷ other ∷ rest)) ≤ 1
+pub stops-short : (m : Machine) (one other : ℕ) (rest : List ℕ) (state : ℕ) → StopsBetween m state one other → length (run m state (one ∷ other ∷ rest)) ≤ 1
 unfolding run
 stops-short m one other rest state stops =
     elim (option-cases (step m state one)) [
@@ -39,7 +39,7 @@ stops-short m one other rest state stops =
     ]
 
 -- so none enters a state behind the place
-run-short : (m : Machine) → IsChecked m → (before one other : ℕ) → IsCertain m before one other → (earlier rest : List ℕ) (state : ℕ) → state < length m.states
+pub run-short : (m : Machine) → IsChecked m → (before one other : ℕ) → IsCertain m before one other → (earlier rest : List ℕ) (state : ℕ) → state < length m.states
     → length (run m state (symbols_of m earlier ++ before ∷ one ∷ other ∷ rest)) ≤ length earlier + 2
 unfolding run
 run-short m checked before one other certain [] rest state here =
@@ -62,7 +62,7 @@ run-short m checked before one other certain (c ∷ earlier) rest state here =
 -- ---- picks
 
 -- one is no longer than its scan
-pick-within : (m : Machine) (symbols : List ℕ) (p : Boundary) → pick m symbols ≡ Some p → p.offset ≤ length (scan m symbols)
+pub pick-within : (m : Machine) (symbols : List ℕ) (p : Boundary) → pick m symbols ≡ Some p → p.offset ≤ length (scan m symbols)
 pick-within m symbols p is = on ((pick-words m symbols p.offset p.status).0 is)
   where
     long : length (entries m (scan m symbols)) ≡ length (scan m symbols)
@@ -173,20 +173,20 @@ module _ (m : Machine) (checked : IsChecked m) (one other : ℕ) (never : NeverB
 
 module _ (m : Machine) (checked : IsChecked m) (before one other : ℕ)
     (certain : IsCertain m (symbol_and_script m before).0 (symbol_and_script m one).0 (symbol_and_script m other).0) where
-  abbrev symbol : ℕ → ℕ
+  abbrev pub symbol : ℕ → ℕ
   symbol code_point = (symbol_and_script m code_point).0
 
-  abbrev ends : List ℕ
+  abbrev pub ends : List ℕ
   ends = replicate (length m.states) 0
 
-  parts : (earlier later : List ℕ) → symbols_of m (earlier ++ before ∷ one ∷ other ∷ later) ++ ends
+  pub parts : (earlier later : List ℕ) → symbols_of m (earlier ++ before ∷ one ∷ other ∷ later) ++ ends
       ≡ symbols_of m earlier ++ symbol before ∷ symbol one ∷ symbol other ∷ (symbols_of m later ++ ends)
   parts earlier later =
       ap (λ (symbols : List ℕ). symbols ++ ends) (map-append symbol earlier (before ∷ one ∷ other ∷ later))
       ∙ append_assoc (symbols_of m earlier) (symbol before ∷ symbol one ∷ symbol other ∷ symbols_of m later) ends
 
   -- no segment ends behind the place
-  pick-short : (earlier later : List ℕ) (p : Boundary) → pick m (symbols_of m (earlier ++ before ∷ one ∷ other ∷ later)) ≡ Some p → p.offset ≤ length earlier + 2
+  pub pick-short : (earlier later : List ℕ) (p : Boundary) → pick m (symbols_of m (earlier ++ before ∷ one ∷ other ∷ later)) ≡ Some p → p.offset ≤ length earlier + 2
   unfolding scan
   pick-short earlier later p is =
       let same = ap (λ (symbols : List ℕ). length (run m 0 symbols)) (parts earlier later) in
@@ -195,7 +195,7 @@ module _ (m : Machine) (checked : IsChecked m) (before one other : ℕ)
       omega (arith, within, same, short)
 
   -- none ends before the last two, where none that starts there has to end at the place
-  pick-between : NeverBreaks m (symbol before) (symbol one) → (earlier later : List ℕ) (p : Boundary) → pick m (symbols_of m (earlier ++ before ∷ one ∷ other ∷ later)) ≡ Some p
+  pub pick-between : NeverBreaks m (symbol before) (symbol one) → (earlier later : List ℕ) (p : Boundary) → pick m (symbols_of m (earlier ++ before ∷ one ∷ other ∷ later)) ≡ Some p
       → p.offset ≡ suc (length earlier) → ⊥
   unfolding scan
   pick-between never earlier later p is =
@@ -204,7 +204,7 @@ module _ (m : Machine) (checked : IsChecked m) (before one other : ℕ)
       never-ends m checked (symbol before) (symbol one) never earlier (symbol other ∷ (symbols_of m later ++ ends)) (scan m (symbols_of m (earlier ++ before ∷ one ∷ other ∷ later)))
       (ap (λ (symbols : List ℕ). run m 0 symbols) (parts earlier later)) _ (omega (arith, count, whole)) p.offset p.status ((pick-words m _ p.offset p.status).0 is)
 
-  pick-anew : StopsBetween m 0 (symbol one) (symbol other) → (later : List ℕ) (p : Boundary) → pick m (symbols_of m (one ∷ other ∷ later)) ≡ Some p → p.offset ≤ 1
+  pub pick-anew : StopsBetween m 0 (symbol one) (symbol other) → (later : List ℕ) (p : Boundary) → pick m (symbols_of m (one ∷ other ∷ later)) ≡ Some p → p.offset ≤ 1
   unfolding scan
   pick-anew stops later p is =
       let short = stops-short m (symbol one) (symbol other) (symbols_of m later ++ ends) 0 stops in
@@ -227,11 +227,11 @@ contains boundaries offset (k, status, is) =
     (k, slice_get_within (offsets boundaries) k offset there, get_or_from_slice_get (offsets boundaries) k offset offset there)
 
 -- what a list that isn't empty begins with: a segment, and then the rest
-record Begins (m : Machine) (xs : List ℕ) : Type 0 where
-  p : Boundary
-  picks : pick m (symbols_of m xs) ≡ Some p
-  some : 0 < p.offset
-  are : later_boundaries (machine_stretch m) xs ≡ p ∷ shift_all p.offset (later_boundaries (machine_stretch m) (drop p.offset xs))
+pub record Begins (m : Machine) (xs : List ℕ) : Type 0 where
+  pub p : Boundary
+  pub picks : pick m (symbols_of m xs) ≡ Some p
+  pub some : 0 < p.offset
+  pub are : later_boundaries (machine_stretch m) xs ≡ p ∷ shift_all p.offset (later_boundaries (machine_stretch m) (drop p.offset xs))
 
 some-boundary : (found : Option Boundary) → IsSome found → (p : Boundary) × (found ≡ Some p)
 some-boundary None some = cc
@@ -241,7 +241,7 @@ some-symbol : (m : Machine) (x : ℕ) (xs : List ℕ) → symbols_of m (x ∷ xs
 some-symbol m x xs none = cc
 
 module _ (m : Machine) (checked : IsChecked m) where
-  begins : (x : ℕ) (xs : List ℕ) → Begins m (x ∷ xs)
+  pub begins : (x : ℕ) (xs : List ℕ) → Begins m (x ∷ xs)
   begins x xs =
       let found = some-boundary (pick m (symbols_of m (x ∷ xs))) (checked.stall_free _ (some-symbol m x xs) (symbols_of-text m checked (x ∷ xs))) in
       let stretch = machine-picks m (x ∷ xs) found.0 found.1 in
@@ -252,7 +252,7 @@ module _ (m : Machine) (checked : IsChecked m) where
         are = rw stretch at (later-next (machine_stretch m) (machine-going m) x xs);
       }
 
-  begins-at : (earlier : List ℕ) (x : ℕ) (xs : List ℕ) → Begins m (earlier ++ x ∷ xs)
+  pub begins-at : (earlier : List ℕ) (x : ℕ) (xs : List ℕ) → Begins m (earlier ++ x ∷ xs)
   begins-at [] x xs = begins x xs
   begins-at (c ∷ earlier) x xs = begins c (earlier ++ x ∷ xs)
 

@@ -4,6 +4,7 @@ pub mod Bounds
 pub mod LastStates
 pub mod ResetScans
 pub mod Certain
+pub mod CertainParts
 pub mod SplitItems
 pub mod Encoded
 pub mod SplitTexts

@@ -1,7 +1,7 @@
--- Certain places: a boundary stands there whatever stands around.
-use Rattle.std.specs.Prelude.{⊤, ◌≡◌, ◌⊎◌, ℕ, ◌+◌, ◌<◌, None, IfSome, IsSome, MatchOption, List, ◌∷◌, ◌++◌, length, Contains}
+-- Certain places: a boundary stands there whatever stands around, and a text may be split there.
+use Rattle.std.specs.Prelude.{⊤, ◌≡◌, ◌⊎◌, ℕ, ◌+◌, ◌-◌, ◌<◌, None, IfSome, IsSome, MatchOption, List, [], ◌∷◌, ◌++◌, drop, length, take, Contains}
 use Rattle.seg_text.specs.declared.boundary.Boundary.{Boundary}
-use Rattle.seg_text.specs.Boundaries.{offsets}
+use Rattle.seg_text.specs.Boundaries.{offsets, shift_all}
 use Rattle.seg_machine.specs.Machine.{Machine, state_at, step, symbol_and_script}
 use Rattle.seg_machine.specs.Pick.{acceptance_status}
 use Rattle.seg_clusters.specs.Rules.{Rules}
@@ -11,6 +11,17 @@ use Rattle.seg_clusters.specs.Rules.Rules.{ByTable, ByMachine}
 abbrev pub AlwaysBreaks : (List ℕ → List Boundary) → ℕ → ℕ → ℕ → Type 0
 AlwaysBreaks find before one other =
     (earlier later : List ℕ) → Contains (offsets (find (earlier ++ before ∷ one ∷ other ∷ later))) (length earlier + 2)
+
+-- a list without its last element
+abbrev pub without_last : {X : Type 0} → List X → List X
+without_last xs = take (length xs - 1) xs
+
+-- each such list may be split there: its boundaries are those of what reaches up to the last of the three, without the end, and then those of
+-- what begins with it, without the start, so much later
+abbrev pub SplitsBetween : (List ℕ → List Boundary) → ℕ → ℕ → ℕ → Type 0
+SplitsBetween find before one other =
+    (earlier later : List ℕ) → find (earlier ++ before ∷ one ∷ other ∷ later)
+    ≡ without_last (find (earlier ++ before ∷ one ∷ other ∷ [])) ++ shift_all (length earlier + 2) (drop 1 (find (other ∷ later)))
 
 -- a scan in this state that reads the one symbol doesn't go on by the other
 abbrev pub StopsBetween : Machine → ℕ → ℕ → ℕ → Type 0

@@ -10,10 +10,11 @@ use Rattle.seg_machine.specs.Machine.{Machine as AnyMachine}
 use Rattle.seg_machine.specs.Pick.{machine_boundaries, machine_stretch}
 use Rattle.seg_machine.specs.declared.tailored_machine.TailoredMachineBorrowed.{TailoredMachineBorrowed}
 use Rattle.seg_machine.proofs.Segmentations.{machine-alone, machine-going}
-use Rattle.seg_clusters.specs.Certain.{AlwaysBreaks}
+use Rattle.seg_clusters.specs.Certain.{AlwaysBreaks, SplitsBetween}
 use Rattle.seg_clusters.specs.Rules.{boundaries_by, first_stretch}
 use Rattle.seg_clusters.specs.Rules.Rules.{ByMachine as ByClusterMachine}
 use Rattle.seg_clusters.proofs.Certain.{certain-by}
+use Rattle.seg_clusters.proofs.CertainParts.{splits-as, splits-by}
 use Rattle.seg_clusters.proofs.ByRules.{going, restarts-by}
 use Rattle.seg_clusters.specs.Spans.{inner_cuts, inner_stretch}
 use Rattle.seg_clusters.specs.Payloads.{Payloads, piece_cuts_by, run_cuts_by}
@@ -130,6 +131,17 @@ pub always-break : (rules : LineRules) (m : AnyMachine) → rules.finder ≡ ByM
 always-break rules m is before one other checked =
     subst (λ (finder : LineFinder). LinesAreCertainWith finder rules.payloads before one other → AlwaysBreaks (boundaries_with finder rules.payloads) before one other) (sym is)
     (lines-break m rules.payloads checked before one other)
+
+lines-split : (m : AnyMachine) (payloads : Payloads) → IsChecked m → (before one other : ℕ) → LinesAreCertainWith (ByMachine m) payloads before one other
+    → SplitsBetween (boundaries_with (ByMachine m) payloads) before one other
+lines-split m payloads checked before one other certain =
+    splits-as (boundaries_with (ByMachine m) payloads) (machine_boundaries m) (λ code_points. without-cuts m payloads code_points certain.1) before one other
+    (splits-by (ByClusterMachine m) m refl checked before one other certain.0)
+
+pub always-split : (rules : LineRules) (m : AnyMachine) → rules.finder ≡ ByMachine m → (before one other : ℕ) → IsChecked m → LinesAreCertain rules before one other → SplitsBetween (line_boundaries_by rules) before one other
+always-split rules m is before one other checked =
+    subst (λ (finder : LineFinder). LinesAreCertainWith finder rules.payloads before one other → SplitsBetween (boundaries_with finder rules.payloads) before one other) (sym is)
+    (lines-split m rules.payloads checked before one other)
 
 -- what isn't a machine of lines has none
 pub none-certain : (payloads : Payloads) (finder : Finder) → ((machine : TailoredMachineBorrowed) → finder ≡ Machine machine → ⊥) → (before one other : ℕ)

@@ -14,12 +14,13 @@ use Rattle.seg_pairs.specs.PairTable.{PairTable}
 use Rattle.seg_pairs.specs.Breaks.{table_stretch, HasComplexElement, complex_stretch}
 use Rattle.seg_pairs.proofs.ComplexStretches.{complex-going, none-after, without-complex}
 use Rattle.seg_pairs.proofs.Engine.{table-going, table-alone}
-use Rattle.seg_clusters.specs.Certain.{AlwaysBreaks, AreCertain, IsByMachine}
+use Rattle.seg_clusters.specs.Certain.{AlwaysBreaks, AreCertain, IsByMachine, SplitsBetween}
 use Rattle.seg_clusters.specs.Rules.{Rules}
 use Rattle.seg_clusters.specs.Rules.Rules.{ByTable, ByMachine}
 use Rattle.seg_data.specs.ScriptWords.{ScriptWords, AreSameWords, no_words}
 use Rattle.seg_clusters.specs.Payloads.{Payloads, run_cuts_by}
 use Rattle.seg_clusters.proofs.Certain.{certain-by}
+use Rattle.seg_clusters.proofs.CertainParts.{splits-as, splits-by}
 use Rattle.seg_clusters.proofs.EqualWords.{same-run-cuts}
 use Rattle.seg_words.specs.WordRules.{HasCertainWords, HasNoRunOfWords, WordRules, WordsAreCertain, first_word_stretch, span_stretch, stretch_by, with_words, word_boundaries_by}
 use Rattle.seg_words.proofs.Spans.{spans-going, without-words}
@@ -72,9 +73,18 @@ module _ (words : WordRules) (m : Machine) (is : words.rules ≡ ByMachine m) (n
       subst (λ (found : List Boundary). Contains (offsets found) (length earlier + 2)) (sym (by-machine (earlier ++ before ∷ one ∷ other ∷ later)))
       (certain-by (ByMachine m) m refl checked before one other (subst (λ (rules : Rules). AreCertain rules before one other) is certain) earlier later)
 
+  splits : IsChecked m → (before one other : ℕ) → AreCertain words.rules before one other → SplitsBetween (word_boundaries_by words) before one other
+  splits checked before one other certain =
+      splits-as (word_boundaries_by words) (machine_boundaries m) by-machine before one other
+      (splits-by (ByMachine m) m refl checked before one other (subst (λ (rules : Rules). AreCertain rules before one other) is certain))
+
 pub words-break : (words : WordRules) (m : Machine) → words.rules ≡ ByMachine m → IsChecked m → (before one other : ℕ)
     → WordsAreCertain words before one other → AlwaysBreaks (word_boundaries_by words) before one other
 words-break words m is checked before one other certain = breaks words m is certain.1 checked before one other certain.0
+
+pub words-split : (words : WordRules) (m : Machine) → words.rules ≡ ByMachine m → IsChecked m → (before one other : ℕ)
+    → WordsAreCertain words before one other → SplitsBetween (word_boundaries_by words) before one other
+words-split words m is checked before one other certain = splits words m is certain.1 checked before one other certain.0
 
 no-run-by : (rules : Rules) (words : ScriptWords) → IsByMachine rules → words ≡ no_words → (code_points : List ℕ) → HasNoRunOfWords rules words code_points
 no-run-by (ByTable t overriding) words by none code_points = absurd by

@@ -1,8 +1,11 @@
 use Rattle.std.proofs.Common.{ap}
 use Rattle.seg_clusters.specs.Rules.{rules_of}
 use Rattle.seg_words.specs.Words.{word_rules}
-use Rattle.seg_words.proofs.ByRules.{words-break}
+use Rattle.seg_words.proofs.ByRules.{words-break, words-split}
 use Rattle.seg_words.proofs.laws.certain_places.Goals as goal
 
-pub returns-in-Neo : goal.returns-in-Neo
-returns-in-Neo c = words-break (word_rules c.args.segmenter) _ (ap rules_of c.in-Neo.is) c.facts.ensures _ _ _
+pub returns-in-Neo-clause-breaks : goal.returns-in-Neo-clause-breaks
+returns-in-Neo-clause-breaks c = words-break (word_rules c.args.segmenter) _ (ap rules_of c.in-Neo.is) c.facts.ensures _ _ _
+
+pub returns-in-Neo-clause-parts : goal.returns-in-Neo-clause-parts
+returns-in-Neo-clause-parts c = words-split (word_rules c.args.segmenter) _ (ap rules_of c.in-Neo.is) c.facts.ensures _ _ _

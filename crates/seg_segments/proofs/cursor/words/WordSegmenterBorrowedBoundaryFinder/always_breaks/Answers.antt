@@ -1,4 +1,4 @@
 use Rattle.seg_segments.proofs.cursor.words.WordSegmenterBorrowedBoundaryFinder.always_breaks.Goals as goal
 
 pub returns : goal.returns
-returns c is = c.certain_places.ensures (c.always_breaks.ensures.0 is)
+returns c is = c.certain_places.ensures.breaks (c.always_breaks.ensures.0 is)
