@@ -8,7 +8,7 @@ ghost use Rattle.icu_segmenter.specs.LineRules.{style_of};
 ghost use Rattle.segment_output.specs.Wrapped.{EndsLines};
 
 use crate::segmenter::{Engine, line_segmenter};
-use icu_segmenter::cursor::TextSegmenter;
+use icu_segmenter::cursor::BoundaryFinder;
 use icu_segmenter::options::{LineBreakOptions, LineBreakStrictness};
 use icu_segmenter::provider::{DataError, Dictionaries};
 use icu_segmenter::wrap::LineWrapper;

@@ -20,7 +20,7 @@ ghost use Rattle.segment_output.specs.declared.marks.Mark.TheVariants.{Rule};
 use crate::marks::{Bare, HasMark, Marked, Ruled};
 use crate::output::{Part, print_segments};
 use crate::vocabulary::Vocabulary;
-use icu_segmenter::cursor::TextSegmenter as Cursor;
+use icu_segmenter::cursor::BoundaryFinder;
 use icu_segmenter::options::{LineBreakOptions, LineBreakStrictness};
 use icu_segmenter::provider::{
     DataError, Dictionaries, LineTailoringsBorrowed, SegmenterStateMachine,
