@@ -5,7 +5,7 @@ use crate::failure::{Failure, both, check};
 use crate::machines::{dictionaries, dictionary, machine, tailoring, tailorings};
 use crate::samples::random_text;
 use crate::tables::{TableNumbers, cluster_table, overriding};
-use crate::trial::{examine, examine_owned};
+use crate::trial::{Seen, examine, examine_owned};
 use bench::segmenter::{AnySegmenter, AnySegmenterBorrowed};
 use icu_segmenter::complex::{ComplexIterator, ComplexPayloadBorrowed};
 use icu_segmenter::options::{
@@ -67,7 +67,7 @@ impl Kind {
 
     /// Tries one case, and says whether there was a memo. The errors are why the data are rejected, out of memory, and what
     /// is wrong.
-    pub fn run(self, alloc: Global, dice: &mut Dice) -> Result<bool, Failure> {
+    pub fn run(self, alloc: Global, dice: &mut Dice) -> Result<Seen, Failure> {
         match self {
             Kind::ClustersNeo => clusters_by_machine(alloc, dice),
             Kind::ClustersClassic => clusters_by_table(alloc, dice),
@@ -83,7 +83,7 @@ impl Kind {
     }
 }
 
-fn clusters_by_machine(alloc: Global, dice: &mut Dice) -> Result<bool, Failure> {
+fn clusters_by_machine(alloc: Global, dice: &mut Dice) -> Result<Seen, Failure> {
     let machine = machine(alloc, dice)?;
     if dice.comes(128) {
         let clusters = GraphemeClusterSegmenter::try_new_neo(machine);
@@ -93,7 +93,7 @@ fn clusters_by_machine(alloc: Global, dice: &mut Dice) -> Result<bool, Failure> 
     examine(alloc, dice, clusters.map(AnySegmenterBorrowed::Clusters))
 }
 
-fn clusters_by_table(alloc: Global, dice: &mut Dice) -> Result<bool, Failure> {
+fn clusters_by_table(alloc: Global, dice: &mut Dice) -> Result<Seen, Failure> {
     let table = cluster_table(alloc, dice)?;
     if dice.comes(128) {
         let clusters = GraphemeClusterSegmenter::try_new(table);
@@ -103,7 +103,7 @@ fn clusters_by_table(alloc: Global, dice: &mut Dice) -> Result<bool, Failure> {
     examine(alloc, dice, clusters.map(AnySegmenterBorrowed::Clusters))
 }
 
-fn sentences_by_machine(alloc: Global, dice: &mut Dice) -> Result<bool, Failure> {
+fn sentences_by_machine(alloc: Global, dice: &mut Dice) -> Result<Seen, Failure> {
     let machine = machine(alloc, dice);
     let (machine, tailoring) = both(machine, tailoring(alloc, dice))?;
     if dice.comes(128) {
@@ -116,7 +116,7 @@ fn sentences_by_machine(alloc: Global, dice: &mut Dice) -> Result<bool, Failure>
     examine(alloc, dice, sentences.map(AnySegmenterBorrowed::Sentences))
 }
 
-fn sentences_by_table(alloc: Global, dice: &mut Dice) -> Result<bool, Failure> {
+fn sentences_by_table(alloc: Global, dice: &mut Dice) -> Result<Seen, Failure> {
     let table = cluster_table(alloc, dice);
     let (table, overriding) = both(table, overriding(alloc, dice))?;
     if dice.comes(128) {
@@ -129,7 +129,7 @@ fn sentences_by_table(alloc: Global, dice: &mut Dice) -> Result<bool, Failure> {
     examine(alloc, dice, sentences.map(AnySegmenterBorrowed::Sentences))
 }
 
-fn words_by_machine(alloc: Global, dice: &mut Dice) -> Result<bool, Failure> {
+fn words_by_machine(alloc: Global, dice: &mut Dice) -> Result<Seen, Failure> {
     let machine = machine(alloc, dice);
     let (machine, clusters) = both(machine, cluster_table(alloc, dice))?;
     if dice.comes(128) {
@@ -163,7 +163,7 @@ fn word_tables(alloc: Global, dice: &mut Dice) -> Result<WordTables, Failure> {
     })
 }
 
-fn words_by_table(alloc: Global, dice: &mut Dice) -> Result<bool, Failure> {
+fn words_by_table(alloc: Global, dice: &mut Dice) -> Result<Seen, Failure> {
     let (tables, words) = both(word_tables(alloc, dice), dictionaries(alloc, dice))?;
     match dice.below(4) {
         0 => examine_given_words(alloc, dice, given_words(tables)),
@@ -228,7 +228,7 @@ fn examine_words(
     alloc: Global,
     dice: &mut Dice,
     made: Result<WordSegmenterBorrowed<'_>, DataError>,
-) -> Result<bool, Failure> {
+) -> Result<Seen, Failure> {
     let mut segmenter = made?;
     let words = dictionaries(alloc, dice)?;
     segmenter.load_dictionary(words.as_borrowed());
@@ -239,7 +239,7 @@ fn examine_given_words(
     alloc: Global,
     dice: &mut Dice,
     made: Result<WordSegmenter, DataError>,
-) -> Result<bool, Failure> {
+) -> Result<Seen, Failure> {
     let mut segmenter = made?;
     segmenter.load_dictionary(dictionaries(alloc, dice)?);
     examine_owned(alloc, dice, Ok(AnySegmenter::Words(segmenter)))
@@ -298,7 +298,7 @@ fn line_machines(alloc: Global, dice: &mut Dice) -> Result<LineMachines, Failure
     })
 }
 
-fn lines_by_machine(alloc: Global, dice: &mut Dice) -> Result<bool, Failure> {
+fn lines_by_machine(alloc: Global, dice: &mut Dice) -> Result<Seen, Failure> {
     let language = language(dice);
     let options = line_options(dice, &language);
     let machines = line_machines(alloc, dice)?;
@@ -358,7 +358,7 @@ fn line_tables(
     Ok(LineTables { table, clusters })
 }
 
-fn lines_by_table(alloc: Global, dice: &mut Dice) -> Result<bool, Failure> {
+fn lines_by_table(alloc: Global, dice: &mut Dice) -> Result<Seen, Failure> {
     let language = language(dice);
     let options = line_options(dice, &language);
     let tables = line_tables(alloc, dice, LINE_CLASSES, UNNAMED_CLASS);
@@ -409,7 +409,7 @@ fn borrowed_lines_with<'a>(
     LineSegmenterBorrowed::new_dictionary(table, clusters, words, options)
 }
 
-fn lines_by_turns(alloc: Global, dice: &mut Dice) -> Result<bool, Failure> {
+fn lines_by_turns(alloc: Global, dice: &mut Dice) -> Result<Seen, Failure> {
     let language = language(dice);
     let options = line_options(dice, &language);
     let complex = RuleBreakData::LINE_V3_PROPERTY_SA;
@@ -441,7 +441,7 @@ fn examine_lines(
     alloc: Global,
     dice: &mut Dice,
     made: Result<LineSegmenterBorrowed<'_>, DataError>,
-) -> Result<bool, Failure> {
+) -> Result<Seen, Failure> {
     let mut segmenter = made?;
     let words = dictionaries(alloc, dice)?;
     segmenter.load_dictionary(words.as_borrowed());
@@ -452,14 +452,14 @@ fn examine_given_lines(
     alloc: Global,
     dice: &mut Dice,
     made: Result<LineSegmenter, DataError>,
-) -> Result<bool, Failure> {
+) -> Result<Seen, Failure> {
     let mut segmenter = made?;
     segmenter.load_dictionary(dictionaries(alloc, dice)?);
     examine_owned(alloc, dice, Ok(AnySegmenter::Lines(segmenter)))
 }
 
 // The cuts of a text as one piece are to rise strictly to its end.
-fn pieces(alloc: Global, dice: &mut Dice) -> Result<bool, Failure> {
+fn pieces(alloc: Global, dice: &mut Dice) -> Result<Seen, Failure> {
     let (words, table) = both(dictionary(alloc, dice), cluster_table(alloc, dice))?;
     let text = random_text(alloc, dice)?;
     check_cuts(alloc, &table, &words, text.as_str())
@@ -470,11 +470,14 @@ fn check_cuts(
     table: &RuleBreakData,
     words: &DictionaryBreakData,
     text: &str,
-) -> Result<bool, Failure> {
+) -> Result<Seen, Failure> {
     let clusters = GraphemeClusterSegmenterBorrowed::new(table)?;
     let cuts = ComplexPayloadBorrowed::Dict(words).segment_str(text, clusters, 0);
     check_rising(collected(alloc, cuts)?.as_slice(), text.len())?;
-    Ok(false)
+    Ok(Seen {
+        has_memo: false,
+        certain: 0,
+    })
 }
 
 fn collected<'s, Y: RuleBreakType<'s>>(

@@ -8,6 +8,7 @@
 #![tactic(auto)]
 
 mod cases;
+mod certain;
 mod certificate;
 mod changes;
 mod dice;

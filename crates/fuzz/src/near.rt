@@ -53,16 +53,19 @@ fn agrees<T: CursorText, S: SegmenterOf<T::Source>>(
         && cursor.next_boundary(place) == near.above
 }
 
-// The boundaries next to a place.
+/// The boundaries next to a place.
 #[derive(Clone, Copy)]
-struct Near {
-    below: Option<usize>,
-    is_there: bool,
-    above: Option<usize>,
+pub struct Near {
+    /// The nearest below it.
+    pub below: Option<usize>,
+    /// Whether one stands there.
+    pub is_there: bool,
+    /// The nearest above it.
+    pub above: Option<usize>,
 }
 
-// Those among boundaries that rise.
-fn neighbours(found: &[(usize, char)], place: usize) -> Near {
+/// Those among boundaries that rise.
+pub fn neighbours(found: &[(usize, char)], place: usize) -> Near {
     let mut near = Near {
         below: None,
         is_there: false,

@@ -3,6 +3,7 @@
 use crate::cases::Kind;
 use crate::dice::Dice;
 use crate::failure::Failure;
+use crate::trial::Seen;
 use anyhow::{Result, bail};
 use icu_segmenter::provider::DataError;
 use std::alloc::Global;
@@ -35,16 +36,18 @@ const FAULTS: [DataError; 18] = [
 pub struct Tally {
     made: u64,
     memos: u64,
+    certain: u64,
     refused: [u64; 20],
 }
 
 impl Tally {
     // Counts a case. The error is one that has neither an answer nor a refusal.
-    fn add(&mut self, outcome: Result<bool, Failure>) -> Result<(), Failure> {
+    fn add(&mut self, outcome: Result<Seen, Failure>) -> Result<(), Failure> {
         match outcome {
-            Ok(has_memo) => {
+            Ok(seen) => {
                 self.made = self.made.saturating_add(1);
-                self.memos = self.memos.saturating_add(u64::from(has_memo));
+                self.memos = self.memos.saturating_add(u64::from(seen.has_memo));
+                self.certain = self.certain.saturating_add(seen.certain);
             }
             Err(Failure::Refused(fault)) => {
                 if let Some(count) = self.refused.get_mut(usize::from(fault.number())) {
@@ -59,8 +62,16 @@ impl Tally {
 
 impl fmt::Display for Tally {
     fn fmt<W: fmt::Write>(&self, f: &mut fmt::Formatter<W>) -> fmt::Result {
-        let Tally { made, memos, .. } = self;
-        write!(f, "{made} agreed, {memos} of them with a memo; refused")?;
+        let Tally {
+            made,
+            memos,
+            certain,
+            ..
+        } = self;
+        write!(
+            f,
+            "{made} agreed, {memos} of them with a memo, {certain} certain places; refused"
+        )?;
         for fault in FAULTS {
             match self.refused.get(usize::from(fault.number())) {
                 None | Some(0) => {}
@@ -77,6 +88,7 @@ pub fn tally_of(alloc: Global, kind: Kind, cases: u64, seed: u64) -> Result<Tall
     let mut tally = Tally {
         made: 0,
         memos: 0,
+        certain: 0,
         refused: [0; 20],
     };
     for case in 0..cases {

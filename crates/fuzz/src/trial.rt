@@ -1,5 +1,6 @@
 //! What is looked at of a segmenter: texts in each encoding, their segments, the memoised engine, and wrapped lines.
 
+use crate::certain::check_certain;
 use crate::dice::Dice;
 use crate::failure::{Failure, check};
 use crate::near::{check_near, check_words};
@@ -18,12 +19,21 @@ use icu_segmenter::{
 };
 use std::alloc::Global;
 
+/// What was seen of texts that agreed.
+#[derive(Clone, Copy)]
+pub struct Seen {
+    /// Whether they have memos.
+    pub has_memo: bool,
+    /// How many certain places they have.
+    pub certain: u64,
+}
+
 /// Asks a segmenter with data of its own what `examine` asks of one over borrowed data.
 pub fn examine_owned(
     alloc: Global,
     dice: &mut Dice,
     made: Result<AnySegmenter, DataError>,
-) -> Result<bool, Failure> {
+) -> Result<Seen, Failure> {
     let segmenter = made?;
     examine(alloc, dice, Ok(segmenter.as_borrowed()))
 }
@@ -31,27 +41,32 @@ pub fn examine_owned(
 // How many times a segmenter is asked for two texts.
 const TIMES: u8 = 8;
 
-/// Segments random texts, and says whether they have memos. The errors are why the data were rejected, out of memory, and what
+/// Segments random texts, and says what was seen of them. The errors are why the data were rejected, out of memory, and what
 /// is wrong.
 pub fn examine(
     alloc: Global,
     dice: &mut Dice,
     made: Result<AnySegmenterBorrowed<'_>, DataError>,
-) -> Result<bool, Failure> {
+) -> Result<Seen, Failure> {
     let segmenter = made?;
-    let mut has_memo = false;
+    let mut all = Seen {
+        has_memo: false,
+        certain: 0,
+    };
     for _ in 0..TIMES {
-        has_memo = check_texts(alloc, dice, segmenter)?;
+        let seen = check_texts(alloc, dice, segmenter)?;
+        all.has_memo = seen.has_memo;
+        all.certain = all.certain.saturating_add(seen.certain);
     }
-    Ok(has_memo)
+    Ok(all)
 }
 
-// Segments random units and random bytes, and says whether the bytes have a memo.
+// Segments random units and random bytes, and says what was seen of the bytes.
 fn check_texts(
     alloc: Global,
     dice: &mut Dice,
     segmenter: AnySegmenterBorrowed<'_>,
-) -> Result<bool, Failure> {
+) -> Result<Seen, Failure> {
     let manner = dice.below(3);
     let columns = usize::from(dice.below(12));
     let units = random_units(alloc, dice)?;
@@ -70,14 +85,14 @@ fn check_units(
     check_segments(manner, segmenter, Text::Utf16(units))
 }
 
-// Bytes have the boundaries of their characters. Says whether there is a memo.
+// Bytes have the boundaries of their characters.
 fn check_bytes(
     alloc: Global,
     segmenter: AnySegmenterBorrowed<'_>,
     manner: u8,
     columns: usize,
     bytes: &[u8],
-) -> Result<bool, Failure> {
+) -> Result<Seen, Failure> {
     let found = counted(alloc, segmenter, Text::Utf8(bytes))?;
     check_segments(manner, segmenter, Text::Utf8(bytes))?;
     check_wrapped(segmenter, Text::Utf8(bytes), columns)?;
@@ -86,7 +101,7 @@ fn check_bytes(
 }
 
 // A text is to have these boundaries in each encoding that has it, its segments, its wrapped lines and its memo are to agree with
-// them, and what a cursor says next to the place that `columns` numbers. Says whether there is a memo.
+// them, and what a cursor says next to the place that `columns` numbers; and certain places are to be among them.
 fn check_text(
     alloc: Global,
     segmenter: AnySegmenterBorrowed<'_>,
@@ -94,12 +109,14 @@ fn check_text(
     columns: usize,
     text: &str,
     expected: &Found,
-) -> Result<bool, Failure> {
+) -> Result<Seen, Failure> {
     check_parts(segmenter, manner, columns, text)?;
     check_encodings(alloc, segmenter, manner, text, expected)?;
     let found = segmenter.boundaries(alloc, Text::Str(text))?;
     check_near(segmenter, text, columns, &found)?;
-    has_memo(alloc, segmenter, text, &found)
+    let certain = check_certain(segmenter, text, &found)?;
+    let has_memo = has_memo(alloc, segmenter, text, &found)?;
+    Ok(Seen { has_memo, certain })
 }
 
 // The segments of a text, its wrapped lines and its words are to agree with its boundaries.
