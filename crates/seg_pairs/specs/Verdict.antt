@@ -88,7 +88,7 @@ walk_of t start [] = walk_from t start 0 []
 walk_of t start (first ∷ []) = walk_from t start first.class []
 walk_of t start (first ∷ second ∷ after) = walk_from t start first.class (classes_of after)
 
--- the walk of these elements stops so: at an entry that names no state, or at the end of the text. These are left then
+-- the walk of `elements` stops so, where an entry names no state or the text ends, and `left` come after
 pub record IsStop
     {E D : Type 0} (left_of : E → List (Element D)) (t : PairTable) (start : ℕ) (elements : List (Element D)) (stop : Stop E D)
     (left : List (Element D)) : Type 0 where

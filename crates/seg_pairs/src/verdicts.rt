@@ -1,6 +1,6 @@
 //! What comes after an element of a text: a boundary, none, or a run of complex elements.
 
-ghost use Rattle.std.specs.Prelude.{◌≡◌, ◌<◌, ℕ, List, ◌∷◌, drop, IfSome};
+ghost use Rattle.std.specs.Prelude.{◌≡◌, ◌<◌, ℕ, List, ◌∷◌, drop};
 ghost use Rattle.seg_pairs.specs.PairTable.{PairTable};
 ghost use Rattle.seg_pairs.specs.Elements.{classes_of};
 ghost use Rattle.seg_pairs.specs.Verdict.{Lands, LandsOrWalks, EndsIn, IsStepBelow, IsOutcomeBelow, verdict, named_verdict, complex_verdict, chain, IsForward};

@@ -1,6 +1,6 @@
 //! Walks through the states of a pair table.
 
-ghost use Rattle.std.specs.Prelude.{◌≡◌, ℕ, ◌<◌, ◌||◌, ◌⊎◌, Some, None, List, ◌∷◌, IfSome, MatchOption, if◌then◌else◌};
+ghost use Rattle.std.specs.Prelude.{◌≡◌, ℕ, ◌<◌, ◌||◌, ◌⊎◌, Some, None, ◌∷◌, IfSome, MatchOption, if◌then◌else◌};
 ghost use Rattle.seg_pairs.specs.PairTable.{is_intermediate, named_state, entry_of};
 ghost use Rattle.seg_pairs.specs.Verdict.{IsStop, class_at};
 ghost use Rattle.seg_pairs.specs.Walk.{is_class};

@@ -1,15 +1,13 @@
 //! Segments by a state machine.
 
-ghost use Rattle.std.specs.Prelude.{◌≡◌, ◌≢◌, ◌<◌, ◌≤◌, ⊤, ℕ, Some, None, IsTrue, MatchOption, false, unwrap_or, [], ◌∷◌, length, min, replicate};
-ghost use Rattle.std.specs.Option.{option_map_or};
+ghost use Rattle.std.specs.Prelude.{◌≡◌, ◌≢◌, ◌<◌, ◌≤◌, ⊤, Some, None, IsTrue, MatchOption, false, unwrap_or, [], length, min, replicate};
 ghost use Rattle.std.specs.Iterator.{YieldsFirst, MakesProgress, item_count};
 ghost use Rattle.seg_text.specs.Filled.{WritesBoth, WritesPlaces};
-ghost use Rattle.seg_text.specs.Items.{code_points, start_of, rest_after};
-ghost use Rattle.seg_text.specs.declared.boundary.Boundary.{Boundary as AnyBoundary};
+ghost use Rattle.seg_text.specs.Items.{start_of};
 ghost use Rattle.seg_text.specs.Boundaries.{GivesNext, IsCover, boundaries_in, offsets_left};
 ghost use Rattle.seg_machine.specs.MachineFaults.{NamesPast};
-ghost use Rattle.seg_machine.specs.Machine.{state_at, symbols_of};
-ghost use Rattle.seg_machine.specs.Pick.{pick, machine_boundaries};
+ghost use Rattle.seg_machine.specs.Machine.{state_at};
+ghost use Rattle.seg_machine.specs.Pick.{machine_boundaries};
 ghost use Rattle.seg_machine.specs.Tailored.{machine_of};
 ghost use Rattle.seg_machine.specs.Scan.{acceptance_at, condition_end, places_after, IsSymbolAhead, IsSegment};
 ghost use Rattle.seg_rows.specs.Underway.{IsScannedTo};
