@@ -98,7 +98,7 @@ still-read r m states after transitions later read same unchanged = rw (same, un
 
 -- another reader's machine has the same symbols
 pub other-ahead : (m : Machine) (before after : List ℕ) (codes : List ℕ) (whole left : Text) (place symbol : ℕ)
-    → IsKeptSymbol (record { subject = subject (reading m before) (symbols_of (reading m before) codes); whole = whole }) place symbol left → place ≡ 0
-    → IsKeptSymbol (record { subject = subject (reading m after) (symbols_of (reading m after) codes); whole = whole }) 0 symbol left
+    → IsKeptSymbol (record { subject = subject (reading m before) (symbols_of (reading m before) codes); whole = whole }) place symbol left
+    → IsKeptSymbol (record { subject = subject (reading m after) (symbols_of (reading m after) codes); whole = whole }) place symbol left
 unfolding symbol_and_script
-other-ahead m before after codes whole left place symbol ahead none = let first = rw none at ahead in record { symbol_is = first.symbol_is; rest = first.rest }
+other-ahead m before after codes whole left place symbol ahead = record { symbol_is = ahead.symbol_is; rest = ahead.rest }

@@ -1,5 +1,5 @@
 -- The outcome of a scan that keeps a lookahead, and its end.
-use Rattle.std.proofs.Common.{◌≡◌, ℕ, suc, ◌+◌, ◌-◌, ◌≤◌, Bool, Option, Some, None, List, ◌∷◌, ◌++◌, length, refl, sym, ap, ◌∙◌, subst, arith, inl, inr, eq-eqb}
+use Rattle.std.proofs.Common.{◌≡◌, ℕ, suc, ◌≤◌, Bool, Option, Some, None, List, ◌∷◌, ◌++◌, length, refl, sym, ap, ◌∙◌, subst, arith, inl, inr, eq-eqb}
 use Rattle.std.proofs.lemmas.Bool.{cases_eq, cases_lt, ne_eqb}
 use Rattle.seg_memo.specs.Configurations.{Boundary, Acceptance, Configuration, Outcome, Kept, Nothing, Picked, Subject, entered, floor, later, outcome_at, picked, start_at}
 use Rattle.seg_text.specs.Boundaries.{boundary}

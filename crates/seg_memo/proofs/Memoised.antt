@@ -1,8 +1,8 @@
 -- The iterator, of what its code has in hand: a table of which all cells are unknown, and a boundary more.
-use Rattle.std.proofs.Common.{◌≡◌, ◌≢◌, ℕ, ◌==◌, Bool, true, Some, List, [], ◌∷◌, length, drop, get_or, min, refl, sym, ap, ◌∙◌, subst, suc, ◌+◌, ◌*◌, ◌%◌, ◌^◌, ◌<◌, ◌≤◌, Option, arith, inl, inr}
+use Rattle.std.proofs.Common.{◌≡◌, ◌≢◌, ℕ, ◌==◌, Bool, true, Some, List, [], ◌∷◌, length, drop, get_or, min, refl, sym, ap, ◌∙◌, subst, suc, ◌*◌, ◌%◌, ◌^◌, ◌<◌, ◌≤◌, Option, arith, inl, inr}
 use Rattle.std.specs.Prelude.{⊤}
 use Rattle.std.specs.Iterator.{MakesProgress, item_count}
-use Rattle.seg_text.specs.Items.{Text, code_points, rest_after, start_of, IsRising, Item}
+use Rattle.seg_text.specs.Items.{Text, code_points, rest_after, start_of, Item}
 use Rattle.seg_memo.specs.Configurations.{Boundary, reading, subject, Acceptance, Configuration, AreLookedUp, AreStarts, Subject, all_look_ups, configurations, different}
 use Rattle.seg_text.specs.Boundaries.{boundary, shift, remainder}
 use Rattle.seg_text.proofs.Cursors.{fewer-left}
@@ -15,8 +15,7 @@ use Rattle.seg_memo.specs.Memos.{Memo, memo, memo_places}
 use Rattle.seg_memo.proofs.Reading.{symbols-drop, symbols-length}
 use Rattle.std.proofs.lemmas.Bool.{cases_lt}
 use Rattle.std.proofs.lemmas.List.{get_or_past, get_or-map, length-map}
-use Rattle.std.proofs.lemmas.Nat.{mul-le, pow_below}
-use Rattle.seg_text.proofs.Hints.{items-few}
+use Rattle.std.proofs.lemmas.Nat.{pow_below}
 use Rattle.seg_machine.specs.MachineFaults.{IsChecked}
 use Rattle.seg_memo.proofs.Lists.{different-bound}
 use Rattle.seg_memo.proofs.Cells.{items-fit, number-below}
@@ -32,15 +31,18 @@ pub record GivesMemo (before after : Memo) (place : ℕ) : Type 0 where
   pub steps : (memo_places before ≡ place ∷ memo_places after) × (before.coming.left ≡ boundary place after.coming.status ∷ after.coming.left)
   pub goes : MakesProgress (λ _. ⊤) (item_count memo_places) before (Some place) after
 
-pub memo-next : (m after_reading : Machine) (text left rest : Text) (given lookups lookups_after place : ℕ) (started : Bool) (status : ℕ) (b : Boundary)
-    → after_reading ≡ m → started ≡ true → left ≡ rest_after given text → left.items ≢ []
-    → (p : Boundary) × (pick m (drop given (symbols_of m (code_points text.items))) ≡ Some p) × (b ≡ shift given p) → rest ≡ rest_after b.offset text → place ≡ start_of rest
-    → GivesMemo (memo m text given started status lookups) (memo after_reading text b.offset started b.status lookups_after) place
-memo-next m after_reading text left rest given lookups lookups_after place started status b same on is some (p, picks, moved) after begins =
+pub memo-next : (m after_reading : Machine) (text same_text left rest : Text) (given after_given lookups lookups_after place : ℕ) (started : Bool) (status : ℕ) (b : Boundary)
+    → after_reading ≡ m → same_text ≡ text → after_given ≡ b.offset → started ≡ true → left ≡ rest_after given text → left.items ≢ []
+    → (p : Boundary) × (pick m (drop given (symbols_of m (code_points text.items))) ≡ Some p) × (b ≡ shift given p) → rest ≡ rest_after after_given text → place ≡ start_of rest
+    → GivesMemo (memo m text given started status lookups) (memo after_reading same_text after_given started b.status lookups_after) place
+memo-next m after_reading text same_text left rest given after_given lookups lookups_after place started status b same stays goes on is some (p, picks, moved) after begins =
     let ends : rest_after b.offset text ≡ rest_after p.offset (rest_after given text) = ap (λ (x : Boundary). rest_after x.offset text) moved ∙ sym (after-after p.offset given text) in
     let gives = gives-next m (rest_after given text) (rest_after b.offset text) started status b.status place on (subst (λ (x : Text). x.items ≢ []) is some)
-    (p, ap (pick m) (symbols-drop m given text.items) ∙ picks, ap (λ (x : Boundary). x.status) moved, ends) (begins ∙ ap start_of after) in
-    rw same (record { steps = gives.steps; goes = fewer-left memo_places _ _ place gives.steps.0 })
+    (p, ap (pick m) (symbols-drop m given text.items) ∙ picks, ap (λ (x : Boundary). x.status) moved, ends) (begins ∙ ap start_of (after ∙ ap (λ (n : ℕ). rest_after n text) goes)) in
+    let next : GivesMemo (memo m text given started status lookups) (memo after_reading text b.offset started b.status lookups_after) place =
+    rw same (record { steps = gives.steps; goes = fewer-left memo_places _ _ place gives.steps.0 }) in
+    subst (λ (x : Text). GivesMemo (memo m text given started status lookups) (memo after_reading x after_given started b.status lookups_after) place) (sym stays)
+    (subst (λ (n : ℕ). GivesMemo (memo m text given started status lookups) (memo after_reading text n started b.status lookups_after) place) (sym goes) next)
 
 -- a machine is read by a reader of its states and of transitions in the place of its own
 pub read-by : (m : Machine) (transitions : List ℕ) (states : ℕ) (whole : Text) → states ≡ length m.states
@@ -125,7 +127,7 @@ first-unknown s t counted memo c within past = on memo.starts memo.are (memo.cel
 
 pub other-memo : (m : Machine) (before after : List ℕ) (place counted count : ℕ) (text : List Item) (t : Table)
     → IsMemo (subject (reading m before) (symbols_of (reading m before) (code_points text))) t counted place → place ≡ 0 → IsChecked (reading m after) → count ≡ 0
-    → IsMemo (subject (reading m after) (symbols_of (reading m after) (code_points text))) t count 0
+    → IsMemo (subject (reading m after) (symbols_of (reading m after) (code_points text))) t count place
 other-memo m before after place counted count text t memo is checked none =
     let old = subject (reading m before) (symbols_of (reading m before) (code_points text)) in
     let new = subject (reading m after) (symbols_of (reading m after) (code_points text)) in
@@ -133,7 +135,8 @@ other-memo m before after place counted count text t memo is checked none =
     let longs : length new.symbols ≡ length old.symbols = symbols-length (reading m after) text ∙ sym (symbols-length (reading m before) text) in
     let room : configurations m (length text) < 2 ^ 64 = subst (λ (n : ℕ). configurations m n < 2 ^ 64) (symbols-length (reading m before) text) first.fit.sound.room in
     let same : (c : Configuration) → IsConfigurationOf new c → IsConfigurationOf old c = λ c within. record { state = within.state; place = omega (arith, longs, within.place); kept = within.kept } in
-    fresh-memo new t count (fresh-sound (reading m after) text checked room) (λ c within. first.fit.has c (same c within) (omega arith)) (λ c within past. first-unknown old t counted first c (same c within) past) none
+    subst (IsMemo new t count) (sym is)
+    (fresh-memo new t count (fresh-sound (reading m after) text checked room) (λ c within. first.fit.has c (same c within) (omega arith)) (λ c within past. first-unknown old t counted first c (same c within) past) none)
 
 -- what is counted
 

@@ -1,13 +1,14 @@
 -- The table of configurations: a map from configurations to cells, and what it tells of the scans.
 use Rattle.std.specs.Prelude.{◌≡◌, ℕ, suc, ◌+◌, ◌-◌, ◌*◌, ◌^◌, ◌<◌, ◌≤◌, ◌⊎◌, ◌==◌, Bool, if◌then◌else◌, Option, Some, None, List, [], ◌∷◌, ◌++◌, drop, length, min, slice_index_or, vec_capacity}
 use Rattle.seg_memo.specs.Configurations.{Boundary, Configuration, Outcome, Nothing, Picked, Kept, Leads, Subject, configuration, configurations, reading, following, look_ups, all_look_ups, start_at, AreStarts, different, entered, floor, later, outcome_at, look_up}
-use Rattle.seg_text.specs.Items.{Text, code_points, rest_after}
+use Rattle.seg_text.specs.Items.{Text, code_points, rest_after, start_of}
 use Rattle.seg_machine.specs.Machine.{Machine, state_at, symbol_count, symbols_of}
 use Rattle.seg_machine.specs.MachineFaults.{IsChecked}
 use Rattle.seg_machine.specs.Pick.{pick}
 use Rattle.seg_text.specs.Boundaries.{shift}
 pub use Rattle.seg_memo.specs.declared.configuration.Cell.{Cell}
 pub use Rattle.seg_memo.specs.declared.configuration.Cell.TheVariants.{Unknown, First, Way, KnownNothing, KnownKept}
+pub use Rattle.seg_memo.specs.declared.search.Scanned.{Scanned}
 pub use Rattle.seg_memo.specs.declared.table.Table.{Table}
 
 -- Cells.
@@ -138,6 +139,18 @@ pub record IsScanned (s : Subject) (t : Table) (counted start : ℕ) (found : Bo
   pub memo : IsMemo s t counted found.offset
   pub past : start ≤ found.offset
   pub segment : (p : Boundary) × (pick s.machine (drop start s.symbols) ≡ Some p) × (found ≡ shift start p)
+
+-- the next scan may begin, of what the code has in hand: those before were made, this is left of the text, and its first symbol is read
+pub record IsReady (r : Source) (t : Table) (counted place : ℕ) (text : Text) (symbol : ℕ) (after : Text) : Type 0 where
+  pub memo : IsMemo r.subject t counted place
+  pub rest : text ≡ rest_after place r.whole
+  pub ahead : IsKeptSymbol r place symbol after
+
+-- it has ended: a cursor stands at its pick, and the symbol at a place is read
+pub record IsEnded (c : Scan) (t : Table) (counted : ℕ) (s : Scanned) (symbol : ℕ) (after : Text) : Type 0 where
+  pub scanned : IsScanned c.source.subject t counted c.start s.pick
+  pub stands : s.stood ≡ start_of (rest_after s.pick.offset c.source.whole)
+  pub ahead : IsKeptSymbol c.source s.place symbol after
 
 -- a configuration that a scan looked up before another, where no lookahead was named
 pub record Before (s : Subject) (here d : Configuration) : Type 0 where

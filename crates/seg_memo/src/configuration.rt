@@ -105,11 +105,13 @@ pub(crate) fn arrive(
 
 /// The lookahead that a state names, which is asked only where the machine has some.
 #[inline(always)]
-pub(crate) fn name_of(entry: (Acceptance, Option<Lookahead>), names: bool) -> Option<Lookahead>
-    requires { names ≡ false → entry.1 ≡ None }
+pub(crate) fn name_of<const NAMES: bool>(
+    entry: (Acceptance, Option<Lookahead>),
+) -> Option<Lookahead>
+    requires { NAMES ≡ false → entry.1 ≡ None }
     ensures { result ≡ entry.1 }
 {
-    if names { entry.1 } else { None }
+    if NAMES { entry.1 } else { None }
 }
 
 /// The configuration of a state that is entered at a place, where no lookahead was named before.
@@ -124,6 +126,18 @@ pub(crate) fn naming(
 {
     let kept = keep(entry.1, 0);
     Configuration { state, place, kept }
+}
+
+/// The configuration of a state at a place, where no lookahead is named.
+#[inline(always)]
+pub(crate) fn plain(state: State, place: usize) -> Configuration
+    ensures { result ≡ configuration state place 0 }
+{
+    Configuration {
+        state,
+        place,
+        kept: 0,
+    }
 }
 
 /// The place up to which a segment's end is known: that of the last acceptance, or else this one.

@@ -11,9 +11,8 @@ ghost use Rattle.seg_memo.specs.Configurations.{AreLookedUp, configurations, rea
 ghost use Rattle.seg_memo.specs.Memos.{IsMemoRefusal, IsNewMemo, memo_places, subject_of};
 
 use crate::reader::{CountedTransitions, ReadTransitions};
-use crate::search::{Scanned, next_segment, next_symbol, skip};
+use crate::search::{Ahead, Left, Scanner, next_symbol, skip};
 use crate::table::Table;
-use seg_machine::provider::Symbol;
 use seg_machine::tailored_machine::TailoredMachineBorrowed;
 use seg_text::cursor::Cursor;
 use seg_text::reach::Reach;
@@ -46,15 +45,9 @@ pub enum MemoError {
 /// read before.
 #[derive(Drop)]
 pub struct MemoBreakIterator<'data, I: Cursor, R: ReadTransitions> {
-    scanned: Scanned<'data, I>,
-    reader: R,
-    table: Table,
-    // What is left after the boundary that was given last, and how many items are before it.
-    rest: I,
-    place: usize,
-    // The symbol of the first item of that, which is read already, and what is left after it.
-    first: Symbol,
-    ahead: I,
+    scanner: Scanner<'data, R>,
+    // What is left after the boundary that was given last.
+    left: Left<I>,
     started: bool,
     status: u8,
 }
@@ -67,25 +60,23 @@ impl<'data, I: Cursor, R: ReadTransitions> fmt::Debug for MemoBreakIterator<'dat
 
 impl<'data, I: Cursor, R: ReadTransitions> Model for MemoBreakIterator<'data, I, R> {
     ghost use Rattle.std.specs.Prelude.{◌≡◌, false};
-    ghost use Rattle.seg_text.specs.Items.{code_points, rest_after};
+    ghost use Rattle.seg_text.specs.Items.{code_points};
     ghost use Rattle.seg_machine.specs.Machine.{symbols_of};
     ghost use Rattle.seg_machine.specs.Tailored.{parts_of};
     ghost use Rattle.seg_memo.specs.Configurations.{reading, subject};
-    ghost use Rattle.seg_memo.specs.Grids.{IsKeptSymbol, IsMemo, IsReadBy, Source};
+    ghost use Rattle.seg_memo.specs.Grids.{IsReadBy, IsReady, Source};
     ghost use Rattle.seg_memo.specs.Memos.{Memo, memo};
 
     ghost Value = { Memo };
 
-    ghost view = { λ s. memo (reading (parts_of s.scanned.machine) (R.transitions s.reader)) (I.text s.scanned.text) s.place s.started s.status (R.counted s.reader) };
+    ghost view = { λ s. memo (reading (parts_of s.scanner.machine) (R.transitions s.scanner.reader)) (I.text s.left.text) s.left.place s.started s.status (R.counted s.scanner.reader) };
 
     ghost invariant = { λ s.
-        let m = reading (parts_of s.scanned.machine) (R.transitions s.reader) in
-        let source : Source = record { subject = subject m (symbols_of m (code_points (I.text s.scanned.text).items)); whole = I.text s.scanned.text } in
-        (s.started ≡ false → (s.status ≡ 0) × (s.place ≡ 0))
-        × IsReadBy source (parts_of s.scanned.machine) (R.states s.reader) (R.transitions s.reader)
-        × (I.text s.rest ≡ rest_after s.place (I.text s.scanned.text))
-        × IsMemo source.subject s.table (R.counted s.reader) s.place
-        × IsKeptSymbol source s.place s.first (I.text s.ahead) };
+        let m = reading (parts_of s.scanner.machine) (R.transitions s.scanner.reader) in
+        let source : Source = record { subject = subject m (symbols_of m (code_points (I.text s.left.text).items)); whole = I.text s.left.text } in
+        (s.started ≡ false → (s.status ≡ 0) × (s.left.place ≡ 0))
+        × IsReadBy source (parts_of s.scanner.machine) (R.states s.scanner.reader) (R.transitions s.scanner.reader)
+        × IsReady source s.scanner.table (R.counted s.scanner.reader) s.left.place (I.text s.left.rest) s.left.ahead.symbol (I.text s.left.ahead.after) };
 }
 
 impl<'data, I: Cursor, R: ReadTransitions> MemoBreakIterator<'data, I, R> {
@@ -105,7 +96,7 @@ impl<'data, I: Cursor, R: ReadTransitions> MemoBreakIterator<'data, I, R> {
         ensures different { AreLookedUp (subject_of self.now) self.now.given result }
         ensures bound { result ≤ configurations self.now.machine (length self.now.text.items) }
     {
-        self.reader.count()
+        self.scanner.reader.count()
     }
 }
 
@@ -126,25 +117,24 @@ impl<'data, I: Cursor, R: ReadTransitions> MemoBreakIterator<'data, I, R> {
         ensures boundaries { result.coming.left ≡ boundaries_in (machine_boundaries (reading self.entry.machine (Other.transitions reader))) self.entry.text }
     {
         let MemoBreakIterator {
-            scanned,
-            reader: _,
-            table,
-            rest,
-            place: _,
-            first,
-            ahead,
+            scanner,
+            left,
             started: _,
             status: _,
         } = self;
+        let Scanner {
+            machine,
+            reader: _,
+            table,
+        } = scanner;
         let started = false;
         MemoBreakIterator {
-            scanned,
-            reader,
-            table,
-            rest,
-            place: 0,
-            first,
-            ahead,
+            scanner: Scanner {
+                machine,
+                reader,
+                table,
+            },
+            left,
             started,
             status: 0,
         }
@@ -206,19 +196,20 @@ impl<'data, I: Cursor> MemoBreakIterator<'data, I, CountedTransitions<'data>> {
         };
         let parts = machine.parts();
         let rest = text.fork();
-        let mut ahead = text.fork();
-        let (first, _) = next_symbol(&parts, &mut ahead, 0);
+        let mut after = text.fork();
+        let (symbol, _) = next_symbol(&parts, &mut after, 0);
         Ok(MemoBreakIterator {
-            scanned: Scanned {
+            scanner: Scanner {
                 machine: parts,
-                text,
+                reader: CountedTransitions::new(machine.machine()),
+                table: Table::new(states, sets, cells),
             },
-            reader: CountedTransitions::new(machine.machine()),
-            table: Table::new(states, sets, cells),
-            rest,
-            place: 0,
-            first,
-            ahead,
+            left: Left {
+                text,
+                rest,
+                place: 0,
+                ahead: Ahead { symbol, after },
+            },
             started: false,
             status: 0,
         })
@@ -235,24 +226,15 @@ impl<'data, I: Cursor, R: ReadTransitions> MemoBreakIterator<'data, I, R> {
     {
         if !self.started {
             self.started = true;
-            return Some(self.rest.place());
+            return Some(self.left.rest.place());
         }
-        if self.rest.is_at_end() {
+        if self.left.rest.is_at_end() {
             self.status = 0;
             return None;
         }
-        let found = next_segment(
-            &self.scanned,
-            &mut self.reader,
-            &mut self.table,
-            &mut self.rest,
-            &mut self.first,
-            &mut self.ahead,
-            self.place,
-        );
-        self.place = found.offset;
+        let found = self.scanner.next_segment(&mut self.left);
         self.status = found.status;
-        Some(self.rest.place())
+        Some(self.left.rest.place())
     }
 }
 
@@ -275,8 +257,8 @@ impl<'data, I: Cursor, R: ReadTransitions> Iterator for MemoBreakIterator<'data,
     fn size_hint(&self) -> (usize, Option<usize>) {
         let reach = Reach {
             started: self.started,
-            place: self.rest.place(),
-            end: self.rest.end(),
+            place: self.left.rest.place(),
+            end: self.left.rest.end(),
         };
         reach.size_hint()
     }

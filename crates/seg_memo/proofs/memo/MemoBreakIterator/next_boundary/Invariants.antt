@@ -6,5 +6,5 @@ use Rattle.seg_memo.proofs.memo.MemoBreakIterator.next_boundary.Given as goal
 
 abbrev pub ghost-next_segment : goal.ghost-next_segment
 ghost-next_segment g a =
-    let m = reading (parts_of a.scanned.now.machine) (g.R.ReadTransitions.transitions a.reader.now) in
-    record { subject = subject m (symbols_of m (code_points (g.I.Cursor.text a.scanned.now.text).items)); whole = g.I.Cursor.text a.scanned.now.text }
+    let m = reading (parts_of a.self.now.machine) (g.R.ReadTransitions.transitions a.self.now.reader) in
+    record { subject = subject m (symbols_of m (code_points (g.I.Cursor.text a.left.now.text).items)); whole = g.I.Cursor.text a.left.now.text }

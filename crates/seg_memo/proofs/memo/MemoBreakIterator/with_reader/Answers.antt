@@ -1,5 +1,4 @@
-use Rattle.std.proofs.Common.{ℕ, ◌∙◌, ap, length, refl, subst, sym}
-use Rattle.seg_text.specs.Items.{rest_after}
+use Rattle.std.proofs.Common.{◌∙◌, ap, length, refl, subst, sym}
 use Rattle.seg_machine.specs.MachineFaults.{IsChecked}
 use Rattle.seg_machine.specs.Tailored.{parts_of}
 use Rattle.seg_memo.specs.Configurations.{reading}
@@ -12,11 +11,13 @@ pub invariant_of-result : goal.invariant_of-result
 invariant_of-result g c =
     let off = ap (λ (v : Memo). v.started) c.self.view_is ∙ c.requires.started in
     let none = (c.self.invariant.0 off).1 in
-    let checked : IsChecked (reading (parts_of c.self.inside.scanned.machine) (g.Other.ReadTransitions.transitions c.args.reader)) =
+    let checked : IsChecked (reading (parts_of c.self.inside.scanner.machine) (g.Other.ReadTransitions.transitions c.args.reader)) =
     subst (λ (v : Memo). IsChecked (reading v.machine (g.Other.ReadTransitions.transitions c.args.reader))) (sym c.self.view_is) c.requires.checked in (
-      λ off. (refl, refl),
-      read-by (parts_of c.self.inside.scanned.machine) _ _ (g.I.Cursor.text c.self.inside.scanned.text) (c.requires.states ∙ ap (λ (v : Memo). length v.machine.states) (sym c.self.view_is)),
-      c.self.invariant.2 ∙ ap (λ (n : ℕ). rest_after n (g.I.Cursor.text c.self.inside.scanned.text)) none,
-      other-memo (parts_of c.self.inside.scanned.machine) (g.R.ReadTransitions.transitions c.self.inside.reader) (g.Other.ReadTransitions.transitions c.args.reader) _ _ _ _ _ c.self.invariant.3 none checked c.requires.count,
-      other-ahead (parts_of c.self.inside.scanned.machine) (g.R.ReadTransitions.transitions c.self.inside.reader) (g.Other.ReadTransitions.transitions c.args.reader) _ _ _ _ _ c.self.invariant.4 none,
+      λ off. (refl, none),
+      read-by (parts_of c.self.inside.scanner.machine) _ _ (g.I.Cursor.text c.self.inside.left.text) (c.requires.states ∙ ap (λ (v : Memo). length v.machine.states) (sym c.self.view_is)),
+      record {
+        rest = c.self.invariant.2.rest;
+        memo = other-memo (parts_of c.self.inside.scanner.machine) (g.R.ReadTransitions.transitions c.self.inside.scanner.reader) (g.Other.ReadTransitions.transitions c.args.reader) _ _ _ _ _ c.self.invariant.2.memo none checked c.requires.count;
+        ahead = other-ahead (parts_of c.self.inside.scanner.machine) (g.R.ReadTransitions.transitions c.self.inside.scanner.reader) (g.Other.ReadTransitions.transitions c.args.reader) _ _ _ _ _ c.self.invariant.2.ahead;
+      },
     )

@@ -11,19 +11,19 @@ use Rattle.seg_memo.proofs.memo.MemoBreakIteratorIterator.size_hint.Goals as goa
 pub returns-clause-lower : goal.returns-clause-lower
 returns-clause-lower g c =
     let s = c.self.inside in
-    let first = machine_stretch (reading (parts_of s.scanned.machine) (g.R.ReadTransitions.transitions s.reader)) in
-    let text = g.I.Cursor.text s.rest in
-    let left = subst (λ (rest : Text). AreLeft s.started (start_of text) text.end (remainder s.started first rest s.status).left) c.self.invariant.2
-    (stretches-left first (machine-within _ c.self.invariant.3.fit.sound.checked) s.started text s.status (g.met.I.Cursor.rises s.rest)) in
+    let first = machine_stretch (reading (parts_of s.scanner.machine) (g.R.ReadTransitions.transitions s.scanner.reader)) in
+    let text = g.I.Cursor.text s.left.rest in
+    let left = subst (λ (rest : Text). AreLeft s.started (start_of text) text.end (remainder s.started first rest s.status).left) c.self.invariant.2.rest
+    (stretches-left first (machine-within _ c.self.invariant.2.memo.fit.sound.checked) s.started text s.status (g.met.I.Cursor.rises s.left.rest)) in
     rw (← c.self.view_is)
-    (hint-lower (remainder s.started first (rest_after s.place (g.I.Cursor.text s.scanned.text)) s.status) _ (c.size_hint.ensures.lower _ (rw (c.place.ensures, c.end.ensures) left)))
+    (hint-lower (remainder s.started first (rest_after s.left.place (g.I.Cursor.text s.left.text)) s.status) _ (c.size_hint.ensures.lower _ (rw (c.place.ensures, c.end.ensures) left)))
 
 pub returns-clause-upper : goal.returns-clause-upper
 returns-clause-upper g c =
     let s = c.self.inside in
-    let first = machine_stretch (reading (parts_of s.scanned.machine) (g.R.ReadTransitions.transitions s.reader)) in
-    let text = g.I.Cursor.text s.rest in
-    let left = subst (λ (rest : Text). AreLeft s.started (start_of text) text.end (remainder s.started first rest s.status).left) c.self.invariant.2
-    (stretches-left first (machine-within _ c.self.invariant.3.fit.sound.checked) s.started text s.status (g.met.I.Cursor.rises s.rest)) in
+    let first = machine_stretch (reading (parts_of s.scanner.machine) (g.R.ReadTransitions.transitions s.scanner.reader)) in
+    let text = g.I.Cursor.text s.left.rest in
+    let left = subst (λ (rest : Text). AreLeft s.started (start_of text) text.end (remainder s.started first rest s.status).left) c.self.invariant.2.rest
+    (stretches-left first (machine-within _ c.self.invariant.2.memo.fit.sound.checked) s.started text s.status (g.met.I.Cursor.rises s.left.rest)) in
     rw (← c.self.view_is)
-    (hint-upper (remainder s.started first (rest_after s.place (g.I.Cursor.text s.scanned.text)) s.status) _ (c.size_hint.ensures.upper _ (rw (c.place.ensures, c.end.ensures) left)))
+    (hint-upper (remainder s.started first (rest_after s.left.place (g.I.Cursor.text s.left.text)) s.status) _ (c.size_hint.ensures.upper _ (rw (c.place.ensures, c.end.ensures) left)))

@@ -1,4 +1,4 @@
-use Rattle.seg_memo.proofs.search.next_segment.Given as goal
+use Rattle.seg_memo.proofs.search.Scanner.next_segment.Given as goal
 
 abbrev pub ghost-scan_any : goal.ghost-scan_any
 ghost-scan_any g a = record { source = g.source; start = a.start }

@@ -1,4 +1,4 @@
-use Rattle.seg_memo.proofs.search.outcome_from.Given as goal
+use Rattle.seg_memo.proofs.search.Scanner.outcome_from.Given as goal
 
 abbrev pub ghost-look_up : goal.ghost-look_up
 ghost-look_up g a = g.named.source

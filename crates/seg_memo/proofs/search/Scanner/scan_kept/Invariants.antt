@@ -1,4 +1,4 @@
-use Rattle.seg_memo.proofs.search.scan_kept.Given as goal
+use Rattle.seg_memo.proofs.search.Scanner.scan_kept.Given as goal
 
 abbrev pub ghost-outcome_from : goal.ghost-outcome_from
 ghost-outcome_from g a = g.named

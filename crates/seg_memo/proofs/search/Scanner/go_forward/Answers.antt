@@ -3,7 +3,7 @@ use Rattle.seg_memo.specs.Grids.{known}
 use Rattle.seg_memo.proofs.Following.{fewer}
 use Rattle.seg_memo.proofs.Reading.{entered-read}
 use Rattle.seg_memo.proofs.Ways.{first-cell, next-cell, walk-ends, walk-known, walk-next, walk-room, walk-start}
-use Rattle.seg_memo.proofs.search.go_forward.Goals as goal
+use Rattle.seg_memo.proofs.search.Scanner.go_forward.Goals as goal
 
 pub write-requires : goal.write-requires
 write-requires g c = first-cell c.requires.1.1.1.0.2

@@ -2,7 +2,7 @@ use Rattle.seg_machine.specs.Tailored.{parts_of}
 use Rattle.seg_memo.specs.Configurations.{configuration, following}
 use Rattle.std.proofs.Common.{length}
 use Rattle.seg_memo.proofs.Ahead.{Scans}
-use Rattle.seg_memo.proofs.search.scan_plain.Given as goal
+use Rattle.seg_memo.proofs.search.Scanner.scan_plain.Given as goal
 
 abbrev pub ghost-next_symbol : goal.ghost-next_symbol
 ghost-next_symbol g a = g.scan.source
@@ -12,8 +12,8 @@ ghost-scan_kept g a = record { source = g.scan.source; start = g.scan.start; las
 
 abbrev pub invariant-scan : goal.invariant-scan
 invariant-scan g l =
-    Scans g.scan.source (parts_of l.machine) (g.R.ReadTransitions.states l.reader) (g.R.ReadTransitions.transitions l.reader) (g.R.ReadTransitions.counted l.reader) l.table g.scan.start (configuration l.state l.place 0) l.after
-    l.symbol (g.I.Cursor.text l.ahead) l.last l.stood
+    Scans g.scan.source (parts_of l.self.machine) (g.R.ReadTransitions.states l.self.reader) (g.R.ReadTransitions.transitions l.self.reader) (g.R.ReadTransitions.counted l.self.reader) l.self.table g.scan.start (configuration l.state l.place 0) l.after
+    l.symbol (g.I.Cursor.text l.ahead.after) l.last l.stood
 
 abbrev pub decreases-scan : goal.decreases-scan
 decreases-scan g l = length (following g.scan.source.subject (configuration l.state l.place 0))

@@ -2,7 +2,7 @@ use Rattle.std.proofs.Common.{◌∙◌, ap, rules, sym}
 use Rattle.seg_memo.specs.Grids.{known}
 use Rattle.seg_memo.proofs.Held.{from-cell, named-left, named-unknown}
 use Rattle.seg_memo.proofs.Ways.{first-cell, first-ends, first-known, first-room}
-use Rattle.seg_memo.proofs.search.outcome_from.Goals as goal
+use Rattle.seg_memo.proofs.search.Scanner.outcome_from.Goals as goal
 
 pub cell-requires : goal.cell-requires
 cell-requires g c = first-cell c.requires.1.1.1.0

@@ -1,7 +1,7 @@
 use Rattle.std.proofs.Common.{◌∙◌, ap, sym}
 use Rattle.seg_memo.specs.Configurations.{floor}
 use Rattle.seg_memo.proofs.Held.{from-cell, last-found, last-some, picked-found, walked-cell, walked-left}
-use Rattle.seg_memo.proofs.search.scan_kept.Goals as goal
+use Rattle.seg_memo.proofs.search.Scanner.scan_kept.Goals as goal
 
 pub place_after-requires : goal.place_after-requires
 place_after-requires g c κs within =
