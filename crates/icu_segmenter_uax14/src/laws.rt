@@ -199,7 +199,7 @@ pub fn hangul_syllables_stay()
     row_fits_by_patterns();
 }
 
-/// Law: no line breaks within a syllable of a Brahmic script: after what stands before an aksara, and before its virama (LB28a).
+/// Law: no line breaks within a syllable of a Brahmic script: after the pre-base of an aksara, and before its virama (LB28a).
 pub fn aksaras_stay()
     ensures before { StayTogether AP (AK or DOTTED or AS) }
     ensures viramas { StayTogether (AK or DOTTED or AS) (VF or VI) }
