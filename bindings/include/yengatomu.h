@@ -137,8 +137,8 @@ size_t yengatomu_previous_utf16(const yengatomu_slot *slot, const uint16_t *text
 
 /* Writes where the first lines end that the text from there on is wrapped to, as many as there is room for, and returns how many.
  * A line takes as many segments as fit in the columns, at least one, and ends where it must. Spaces, line feeds and carriage returns
- * at its end take no columns. Columns are counted by character, or by cluster (yengatomu_count_by_cluster). Go on as with
- * yengatomu_boundaries. 0 where from is len or more, where the slot is empty, and of other kinds than lines. */
+ * before its end take no columns, nor do control characters: write spaces for tabs first. Columns are counted by character, or by cluster
+ * (yengatomu_count_by_cluster). Go on as with yengatomu_boundaries. 0 where from is len or more, where the slot is empty, and of other kinds than lines. */
 size_t yengatomu_wrap(const yengatomu_slot *slot, const uint8_t *text, size_t len, size_t from, size_t columns, size_t *ends, size_t room);
 size_t yengatomu_wrap_utf16(const yengatomu_slot *slot, const uint16_t *text, size_t len, size_t from, size_t columns, size_t *ends,
                             size_t room);
