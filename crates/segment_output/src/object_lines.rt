@@ -49,14 +49,13 @@ pub fn print_objects<N: Iterator<Item = (usize, Mark)>, O: Write>(
         line: Vec::new(alloc),
         stretch: BareStretch { from: 0, text: "" },
     };
-    let Some(first) = places.next() else {
-        out.flush()?;
-        return Ok(0);
-    };
-    let mut start = first.0;
     let mut count: usize = 0;
+    let mut start = 0;
+    let mut has_begun = false;
     'places: while let Some((end, mark)) = places.next() {
-        if mark.is_shown(alone) {
+        if !has_begun {
+            has_begun = true;
+        } else if mark.is_shown(alone) {
             count = one_more(count)?;
             let segment = Segment { start, end, mark };
             if !put_short(part, segment, objects.stretch, &mut objects.page) {

@@ -102,22 +102,24 @@ fn print_lines<N: Iterator<Item = (usize, Mark)>, O: Write>(
 {
     let mut lines = Vec::with_capacity(alloc, LINES_CAPACITY)?;
     let mut stretch = stretch_after(part.bytes, 0, part.style);
-    let Some(first) = places.next() else {
-        out.flush()?;
-        return Ok(0);
-    };
-    let mut start = first.0;
     let mut count: usize = 0;
+    // Before the first place no segment begins, and the short way isn't taken.
+    let mut start = usize::MAX;
+    let mut has_begun = false;
     'places: while let Some((end, mark)) = places.next() {
-        if mark.is_shown(alone) {
+        if !mark.is_shown(alone) {
+            has_begun = true;
+        } else if push_short(part.bytes, start, end, &stretch, &mut lines) {
             count = one_more(count)?;
-            if !push_short(part.bytes, start, end, &stretch, &mut lines) {
-                let segment = Segment { start, end, mark };
-                match part.style {
-                    Style::Counted(_) => {}
-                    _ => push_long(part, segment, &mut stretch, &mut lines, out)?,
-                }
+        } else if has_begun {
+            count = one_more(count)?;
+            let segment = Segment { start, end, mark };
+            match part.style {
+                Style::Counted(_) => {}
+                _ => push_long(part, segment, &mut stretch, &mut lines, out)?,
             }
+        } else {
+            has_begun = true;
         }
         start = end;
     }

@@ -60,7 +60,8 @@ fn stretch_to(text: &[u8], from: usize, to: usize, last: u8) -> Stretch
     }
 }
 
-/// Adds the line of a segment, where it is a short one in the stretch and there is room for it.
+/// Adds the line of a segment, where it is a short one in the stretch and there is room for it. No such segment begins at the last place that
+/// a `usize` counts.
 #[inline(always)]
 pub fn push_short(
     text: &[u8],
@@ -72,6 +73,7 @@ pub fn push_short(
     requires { stretch.now.from ≤ stretch.now.to → stretch.now.to + 16 ≤ length text.now }
     ensures short { (look : Look) (before : ℕ) (mark : Mark) → IsStretch look.style text.now stretch.now → IsTrue result
         → lines.new.items ≡ lines.old.items ++ line_at look before text.now (record { from = start; to = end; mark = mark }) }
+    ensures begun { IsTrue result → start + 1 < 2 ^ 64 }
     ensures long { result ≡ false → lines.new.items ≡ lines.old.items }
 {
     if start < stretch.from || end > stretch.to || end < start {

@@ -1,15 +1,17 @@
--- What has been written so far, and then what is gathered, is the lines of the segments between the places so far.
-use Rattle.std.proofs.Common.{◌≡◌, ◌∷◌, Some, length}
+-- What has been written so far, and then what is gathered, is the lines of the segments between the places so far; and before the first place
+-- none begins.
+use Rattle.std.proofs.Common.{◌≡◌, ◌+◌, ◌^◌, false, length}
 use Rattle.std.specs.Option.{option_map}
 use Rattle.segment_output.specs.Gathered.{AreGathered}
 use Rattle.segment_output.specs.Output.{look_of, segments, lines_at}
 use Rattle.segment_output.specs.Stretch.{IsStretch}
-use Rattle.segment_output.proofs.Segments.{last}
+use Rattle.segment_output.proofs.Segments.{begun, last}
 use Rattle.segment_output.proofs.output.print_lines.Given as goal
 
 abbrev pub invariant-places : goal.invariant-places
 invariant-places g l =
-    (Some l.start ≡ option_map (λ boundary. boundary.0) (last (l.first ∷ l.yielded)))
-    × AreGathered (g.O.Write.contents l.fn.out) (g.O.Write.contents l.out) l.lines.items (lines_at (look_of l.part) l.part.before l.part.bytes.now (segments l.alone (l.first ∷ l.yielded)))
-    × (l.count ≡ length (segments l.alone (l.first ∷ l.yielded)))
+    (begun l.has_begun l.start ≡ option_map (λ boundary. boundary.0) (last l.yielded))
+    × AreGathered (g.O.Write.contents l.fn.out) (g.O.Write.contents l.out) l.lines.items (lines_at (look_of l.part) l.part.before l.part.bytes.now (segments l.alone l.yielded))
+    × (l.count ≡ length (segments l.alone l.yielded))
     × IsStretch l.part.style l.part.bytes.now l.stretch
+    × (l.has_begun ≡ false → l.start + 1 ≡ 2 ^ 64)
