@@ -1,6 +1,10 @@
 //! The arguments of the command line: each kind of segments is a subcommand, and what it takes stands in lists.
 #![tactic(auto)]
 
+ghost use Rattle.std.specs.Prelude.{◌≡◌, string_bytes};
+ghost use Rattle.std.specs.List.{before_first, list_any};
+ghost use Rattle.segment_arguments.specs.Columns.{columns_in, ends_options, is_width};
+
 use clap::builder::ValueParser;
 use clap::{Arg, ArgAction, Command, value_parser};
 use std::alloc::{AllocError, Global};
@@ -14,18 +18,46 @@ pub enum Columns {
     InOption,
 }
 
-/// Where the words of a command line say it.
-pub fn columns_by(words: &[String]) -> Columns {
-    for word in words.iter() {
-        let word = word.as_str();
-        if word == "--" {
-            return Columns::InPlace;
-        }
-        if word == "--width" || word.starts_with("--width=") {
-            return Columns::InOption;
-        }
+/// Where the words of a command line say it: in an option, where one of those before `--` is `--width`, or begins with `--width=`.
+pub fn columns_by(words: &[String]) -> Columns
+    ensures { result ≡ columns_in (list_any (λ word. is_width (string_bytes word)) (before_first (λ word. ends_options (string_bytes word)) words.now)) }
+{
+    if says_width(options(words)) {
+        Columns::InOption
+    } else {
+        Columns::InPlace
     }
-    Columns::InPlace
+}
+
+// The words before `--`, or all.
+fn options(words: &[String]) -> &[String]
+    ensures { result.now ≡ before_first (λ word. ends_options (string_bytes word)) words.now }
+{
+    match words.iter().position(|word| ends_options(word.as_bytes())) {
+        Some(index) => &words[..index],
+        None => words,
+    }
+}
+
+// Whether one of the words says it.
+fn says_width(words: &[String]) -> bool
+    ensures { result ≡ list_any (λ word. is_width (string_bytes word)) words.now }
+{
+    words.iter().any(|word| is_width(word.as_bytes()))
+}
+
+// Whether a word is `--`.
+fn ends_options(word: &[u8]) -> bool
+    ensures { result ≡ ends_options word.now }
+{
+    word.len() == 2 && word.starts_with(b"--")
+}
+
+// Whether a word is `--width`, or begins with `--width=`.
+fn is_width(word: &[u8]) -> bool
+    ensures { result ≡ is_width word.now }
+{
+    word.starts_with(b"--width=") || word.len() == 7 && word.starts_with(b"--width")
 }
 
 // What follows the name of an argument.
