@@ -1,5 +1,5 @@
 -- Where nothing is to come any more, the segments so far have all items, and what was looked up is all that is ever looked up.
-use Rattle.std.proofs.Common.{◌≡◌, ◌≤◌, ◌+◌, ℕ, min, Bool, false, true, Option, Some, None, List, [], ◌∷◌, ◌++◌, length, map, drop, get_or, All, IsSome, refl, sym, ap, ◌∙◌, arith}
+use Rattle.std.proofs.Common.{◌≡◌, ◌≤◌, ℕ, min, Bool, false, true, Option, Some, None, List, [], ◌∷◌, ◌++◌, length, map, drop, get_or, All, IsSome, refl, sym, ap, ◌∙◌, arith}
 use Rattle.std.specs.Option.{is_some, option_map, option_map_or}
 use Rattle.std.proofs.lemmas.List.{get_or-map, length-drop, length-map}
 use Rattle.std.proofs.lemmas.Option.{none-some, same_Some}

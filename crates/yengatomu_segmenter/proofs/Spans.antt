@@ -1,9 +1,9 @@
 -- Balanced lines stay in their text, and are written one by one.
-use Rattle.std.proofs.Common.{◌≡◌, ℕ, ◌+◌, ◌-◌, ◌<◌, ◌≤◌, ◌^◌, List, [], ◌∷◌, length, drop, get_or, map, suc, zero, refl, sym, ap, ◌∙◌, subst, arith}
+use Rattle.std.proofs.Common.{◌≡◌, ℕ, ◌+◌, ◌<◌, ◌≤◌, ◌^◌, List, [], ◌∷◌, length, drop, get_or, map, suc, zero, refl, sym, ap, ◌∙◌, subst, arith}
 use Rattle.std.specs.List.{All}
 use Rattle.std.specs.Prelude.{IfOk, None, Result, Ok, Err}
 use Rattle.std.proofs.lemmas.List.Elements.{All-cons}
-use Rattle.icu_segmenter.specs.Items.{IsRising, Text, rest_after, start_of}
+use Rattle.icu_segmenter.specs.Items.{IsRising, Text, rest_after}
 use Rattle.icu_segmenter.specs.LineBreaks.{LineRules}
 use Rattle.icu_segmenter.specs.Paragraphs.{GivesParagraph, ParagraphsLeft, balanced_style, spans_of}
 use Rattle.icu_segmenter.specs.WrappedLines.{AreParagraphsOf}

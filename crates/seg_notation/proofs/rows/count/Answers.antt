@@ -1,4 +1,4 @@
-use Rattle.std.proofs.Common.{◌≡◌, false, sym, ◌∙◌}
+use Rattle.std.proofs.Common.{◌≡◌, sym, ◌∙◌}
 use Rattle.seg_notation.specs.Scanning.{past_blanks}
 use Rattle.seg_notation.proofs.Scanning.{after-miss, looked, second, neither}
 use Rattle.seg_notation.proofs.rows.count.Goals as goal

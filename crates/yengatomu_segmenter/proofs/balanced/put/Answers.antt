@@ -1,4 +1,4 @@
-use Rattle.std.proofs.Common.{ℕ, ◌+◌, ◌-◌, ◌<◌, ◌^◌, length, arith}
+use Rattle.std.proofs.Common.{◌+◌, ◌-◌, ◌<◌, ◌^◌, length, arith}
 use Rattle.std.specs.Prelude.{min}
 use Rattle.icu_segmenter.proofs.Filling.{went-on}
 use Rattle.seg_wrap.specs.declared.wrap.wrapping.Span.{Span}

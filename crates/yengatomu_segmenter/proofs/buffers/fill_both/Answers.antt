@@ -1,4 +1,4 @@
-use Rattle.std.proofs.Common.{ℕ, ◌+◌, ap, ◌∙◌}
+use Rattle.std.proofs.Common.{ℕ, ◌+◌, ◌∙◌}
 use Rattle.std.proofs.lemmas.List.{drop-map}
 use Rattle.icu_segmenter.specs.Boundary.{Boundary}
 use Rattle.icu_segmenter.proofs.Given.{cover-up-to, numbers-behind, offsets-behind}

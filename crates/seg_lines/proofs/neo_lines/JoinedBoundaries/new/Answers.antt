@@ -2,10 +2,9 @@ use Rattle.std.proofs.Common.{◌≡◌, List, ◌++◌, sym, ap, ◌∙◌, sub
 use Rattle.std.specs.Option.{option_to_list}
 use Rattle.seg_text.specs.declared.boundary.Boundary.{Boundary}
 use Rattle.seg_text.specs.Items.{start_of}
-use Rattle.seg_text.specs.Boundaries.{IsCover, boundaries_in, offsets, cut_places}
+use Rattle.seg_text.specs.Boundaries.{IsCover, boundaries_in, offsets}
 use Rattle.seg_machine.specs.Pick.{machine_boundaries}
 use Rattle.seg_machine.specs.Tailored.{machine_of}
-use Rattle.seg_clusters.specs.Spans.{inner_cuts}
 use Rattle.seg_clusters.specs.Payloads.{payloads_of}
 use Rattle.seg_lines.specs.LineBreaks.{AreRising, joined, all_left}
 use Rattle.seg_lines.proofs.JoinCover.{cover-rising, cut-places-rising, text-cover, text-joined}
