@@ -1,5 +1,5 @@
 //! The program, over any reader and writers.
-ghost use Rattle.std.specs.Prelude.{◌≡◌, ◌≢◌, ◌≤◌, ◌↔◌, ℕ, List, OnOk, IfOk, IfErr, IfSome, IsErrOf, length};
+ghost use Rattle.std.specs.Prelude.{◌≡◌, ◌≢◌, ◌≤◌, ℕ, List, OnOk, IfOk, IfErr, IfSome, IsErrOf};
 ghost use Rattle.std.specs.Iterator.{IsFinite, Drains};
 ghost use Rattle.std.specs.Io.KnownBytes.{Appends, IsAtEnd};
 ghost use Rattle.std.specs.Str.{IsUtf8};
@@ -12,7 +12,7 @@ ghost use Rattle.icu_segmenter.specs.LineBreaks.{line_boundaries_of, IsByPairTab
 ghost use Rattle.icu_segmenter.specs.Lines.{line_rules, owned_line_rules};
 ghost use Rattle.icu_segmenter.specs.Words.{word_rules};
 ghost use Rattle.icu_segmenter.specs.WordRules.{word_boundaries_of};
-ghost use Rattle.textcut.specs.Command.{texts, places_of, sample_lines};
+ghost use Rattle.textcut.specs.Command.{places_of, sample_lines};
 ghost use Rattle.textcut.specs.Failure.{status_of, message_of, AppendsBeginning};
 ghost use Rattle.textcut.specs.Lines.{lines_of};
 ghost use Rattle.textcut.specs.Request.{IsReadable, output_of};
