@@ -12,7 +12,7 @@ use Rattle.segment.specs.declared.command.RequestedAction.TheVariants.{Cut}
 abbrev pub list_name : List ℕ → List ℕ
 list_name language = codes "abbreviations-" ++ language
 
--- the language whose list a action takes
+-- the language whose list an action takes
 abbrev pub language_by : RequestedAction → Option (List ℕ) → Option (List ℕ)
 language_by (Cut kind.Sentences style engine) language = language
 language_by action language = None

@@ -175,7 +175,7 @@ IsLimit found columns limit =
     → option_map (λ limit. limit.lines) limit ≡ Some (digits_value 10 digits))
     × IfSome limit (λ limit. (0 < limit.lines) × IsPlaceholder found columns limit.placeholder.now)
 
--- a action is the one that is named
+-- an action is the one that is named
 abbrev pub IsRequestedAction : List ℕ → Found → RequestedAction → Type 0
 IsRequestedAction word found (Cut kind style engine) =
     (word ≡ kind_word kind)

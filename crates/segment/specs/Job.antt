@@ -106,7 +106,7 @@ AreOptions request options =
 abbrev pub IsWrapperFor : Request → ScriptWords → Width → Wrapper → Type 0
 IsWrapperFor request words width wrapper = (options : LineBreakOptions) × AreOptions request options × IsAskedWrapper width options words wrapper
 
--- action is the one that a request asks for, with the words of scripts, abbreviations, and patterns of hyphenation, if there are some
+-- an action is the one that a request asks for, with the words of scripts, abbreviations, and patterns of hyphenation, if there are some
 abbrev pub IsAskedAction : Request → ScriptWords → Option Words → Option HyphenationPatterns → Action → Type 0
 IsAskedAction request words abbreviations patterns (Cut segmenter style) =
     (kind : Kind) × (engine : Engine) × (request.action ≡ requested.Cut kind style engine)

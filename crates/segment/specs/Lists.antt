@@ -16,7 +16,7 @@ choice_of (kind.Words alone) = All
 choice_of kind.Sentences = Nothing
 choice_of kind.Lines = WithoutCj
 
--- and those that a action takes
+-- and those that an action takes
 abbrev pub choice_by : RequestedAction → Choice
 choice_by (Cut kind style engine) = choice_of kind
 choice_by (Wrap width) = WithoutCj

@@ -14,7 +14,7 @@ use std::alloc::Global;
 use std::fs;
 use std::rt::{Env, Files};
 
-/// The dictionaries that a action has: of the files that are named, one word a line, each in its script's place, and of a folder's lists for
+/// The dictionaries that an action has: of the files that are named, one word a line, each in its script's place, and of a folder's lists for
 /// the other scripts. The errors are a file that can't be read, isn't UTF-8 or has no words, and a folder without lists, which are named, and
 /// being out of memory.
 pub fn dictionaries_of<R: AllocGlobal + Files + Env>(

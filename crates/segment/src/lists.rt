@@ -31,7 +31,7 @@ pub trait ReadLists {
         ensures { IfOk result (λ read. IfSome (lists self.now name.now) (λ words. option_map words_of read ≡ words)) };
 }
 
-/// The lists that a action takes.
+/// The lists that an action takes.
 pub fn choice_by(action: RequestedAction<'_>) -> Choice
     ensures { result ≡ choice_by action.entry }
 {
