@@ -55,10 +55,6 @@ pub(crate) fn is_certain(
     ensures { IsTrue result ↔ IsCertain (machine_of machine.entry) before one other }
 {
     machine.facts();
-    let start = SegmenterStateMachine::START_STATE;
-    if !stops_between(machine, start, one, other) && !never_breaks(machine, before, one) {
-        return false;
-    }
     for state in 0..machine.machine().states().len() {
         if let Some(next) = machine.next_state(state as State, before) {
             if !stops_between(machine, next, one, other) {
@@ -66,7 +62,8 @@ pub(crate) fn is_certain(
             }
         }
     }
-    true
+    let start = SegmenterStateMachine::START_STATE;
+    stops_between(machine, start, one, other) || never_breaks(machine, before, one)
 }
 
 /// Whether a scan in the state that reads the one symbol doesn't go on by the other.

@@ -18,6 +18,7 @@ use Rattle.seg_lines.specs.LineBreaks.{LineRules, line_boundaries_of, lines_with
 use Rattle.seg_lines.proofs.LineLaws.{equal-words as equal-line-words}
 use Rattle.seg_segments.specs.TextSegments.{IsPlace}
 use Rattle.seg_segments.proofs.Cutting.{place-boundary}
+pub use Rattle.seg_segments.proofs.Nearest.{has-cases, has-none}
 
 -- ---- what an iterator gives up to its end
 

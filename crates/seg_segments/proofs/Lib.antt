@@ -6,6 +6,7 @@ mod Nearest
 mod Parts
 mod ItemStarts
 mod Certain
+mod Splits
 pub mod Given
 mod Suppressing
 mod Sources

@@ -1,7 +1,7 @@
 -- Boundaries near a place of a text.
-use Rattle.std.specs.Prelude.{IsTrue, Bool, ◌≡◌, ℕ, ◌+◌, ◌<◌, ◌≤◌, ◌⊎◌, Option, List, [], ◌∷◌, ◌++◌, Contains, MatchOption, length}
+use Rattle.std.specs.Prelude.{IsTrue, Bool, ◌≡◌, ℕ, ◌+◌, ◌<◌, ◌≤◌, ◌⊎◌, Option, List, [], ◌∷◌, ◌++◌, Contains, MatchOption, drop, filter, length, nat_le}
 use Rattle.seg_text.specs.declared.boundary.Boundary.{Boundary}
-use Rattle.seg_text.specs.Boundaries.{HasRestart, boundaries_in, offsets}
+use Rattle.seg_text.specs.Boundaries.{HasRestart, boundaries_in, offsets, shift_all}
 use Rattle.seg_text.specs.Decoding.{utf8}
 use Rattle.seg_text.specs.Items.{Text}
 
@@ -48,3 +48,13 @@ pub record IsPart (places : List ℕ) (start : ℕ) (part : List ℕ) : Type 0 w
   pub starts : Contains part 0
   pub among : (place : ℕ) → Contains part place → Contains places (start + place)
   pub all : (place : ℕ) → Contains places place → (place ≤ start) ⊎ ((inner : ℕ) × Contains part inner × (place ≡ start + inner))
+
+-- the boundaries up to a place
+abbrev pub up_to : ℕ → List Boundary → List Boundary
+up_to place boundaries = filter (λ (found : Boundary). nat_le found.offset place) boundaries
+
+-- each text that begins with some units may be split at a place of theirs: a boundary stands there, and whatever comes behind these units, the
+-- boundaries are those up to the place that the units have alone, and then those of what begins there, without its start, so much later
+pub record SplitsAt (find : List ℕ → List Boundary) (units : List ℕ) (place : ℕ) : Type 0 where
+  pub boundary : Contains (offsets (find units)) place
+  pub parts : (more : List ℕ) → find (units ++ more) ≡ up_to place (find units) ++ shift_all place (drop 1 (find (drop place units ++ more)))

@@ -13,7 +13,7 @@ ghost use Rattle.std.specs.Prelude.{◌≡◌, ◌↔◌, ◌<◌, ◌≤◌, �
 ghost use Rattle.seg_text.specs.declared.boundary.Boundary.{Boundary};
 ghost use Rattle.seg_text.specs.Boundaries.{boundaries_in, HasRestart, IsCover};
 ghost use Rattle.seg_text.specs.Decoding.{utf8, utf16};
-ghost use Rattle.seg_clusters.specs.Certain.{AlwaysBreaks};
+ghost use Rattle.seg_clusters.specs.Certain.{AlwaysBreaks, SplitsBetween};
 ghost use Rattle.seg_clusters.specs.Rules.{PartsBehind};
 ghost use Rattle.seg_segments.specs.NearBoundaries.{IsNearestAbove, IsNearestBelow, IsPart, boundaries_of_units, boundary_places, line_feed, places_of_units};
 
@@ -22,6 +22,7 @@ mod clusters;
 mod line_starts;
 mod lines;
 mod sentences;
+mod splits;
 mod suppressed;
 mod texts;
 mod words;
@@ -29,6 +30,7 @@ mod words;
 use crate::segments::{BreakIterator, Source};
 use certain::start_before;
 use seg_text::indices::{Utf8CharIndices, Utf16Indices};
+pub use splits::last_split;
 use std::marker::Model;
 pub use texts::CursorText;
 
@@ -48,10 +50,11 @@ pub trait BoundaryFinder: Drop {
     fn has_certain_places(&self) -> bool
         ensures { IsTrue result → HasRestart (find self.now) };
 
-    /// Whether each text that has these three code points one after another has a boundary between the last two. If `false`, nothing is
-    /// said.
+    /// Whether each text that has these three code points one after another has a boundary between the last two, and may be split there. If
+    /// `false`, nothing is said.
     fn always_breaks(&self, before: u32, one: u32, other: u32) -> bool
-        ensures { IsTrue result → AlwaysBreaks (find self.now) before one other };
+        ensures breaks { IsTrue result → AlwaysBreaks (find self.now) before one other }
+        ensures parts { IsTrue result → SplitsBetween (find self.now) before one other };
 }
 
 /// A segmenter of texts in one encoding: that which the cursor reads.

@@ -80,7 +80,7 @@ IsPrintedBy job file bytes written = IsActionOutput job.action file (text_of job
 abbrev pub IsDoneBy : Job → Option (List ℕ) → Splitting → Type 0
 IsDoneBy job file splitting = (splitting.preparation ≡ job.preparation) × IsPrintingOf job.action file splitting.printing
 
--- of what a reader gave before it failed whole lines or paragraphs are written, and nothing of the rest
+-- of what a reader gave before it failed whole lines or paragraphs are written, or all up to a certain place, and nothing of the rest
 abbrev pub IsBegunBy : Job → Option (List ℕ) → Option (List ℕ) → Option (List ℕ) → Option (List ℕ) → Option (List ℕ) → Type 0
 IsBegunBy job file from to old new = (splitting : Splitting) × IsDoneBy job file splitting × IsBegun splitting from to old new
 

@@ -5,6 +5,7 @@ use Rattle.std.specs.Option.{option_map}
 use Rattle.std.specs.Str.Lossy.{utf8_lossy}
 use Rattle.json.specs.Print.{print}
 use Rattle.json.specs.Token.{Token, begin_object, end_object, key, string, number, boolean}
+use Rattle.icu_segmenter.specs.Boundary.{Boundary}
 use Rattle.icu_segmenter.specs.WordRules.{is_word_like}
 use Rattle.icu_segmenter.specs.declared.options.WordType.{WordType}
 use Rattle.icu_segmenter.specs.declared.options.WordType.TheVariants as word
@@ -40,6 +41,13 @@ segment_between (start, end) = record { from = start.0; to = end.0; mark = end.1
 -- places of which nothing is said
 abbrev pub unmarked : List ℕ → List (ℕ × Mark)
 unmarked places = map (λ (place : ℕ). (place, Unmarked)) places
+
+-- boundaries, and places, that a limit admits
+abbrev pub shown_boundaries : (ℕ → Bool) → List Boundary → List Boundary
+shown_boundaries admits boundaries = filter (λ (found : Boundary). admits found.offset) boundaries
+
+abbrev pub shown_places : (ℕ → Bool) → List ℕ → List ℕ
+shown_places admits places = filter admits places
 
 -- the segments between the boundaries of a text, which are neighbours, of which each says what ends there; all, or words alone
 abbrev pub segments : Bool → List (ℕ × Mark) → List Segment

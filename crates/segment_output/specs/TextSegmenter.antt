@@ -1,5 +1,5 @@
 -- The segments that each segmenter gives, and which one is made.
-use Rattle.std.specs.Prelude.{◌≡◌, ℕ, ◌==◌, Bool, false, Option, None, Some, List}
+use Rattle.std.specs.Prelude.{◌≡◌, ℕ, ◌==◌, nat_le, Bool, false, Option, None, Some, List}
 use Rattle.icu_segmenter.specs.Abbreviations.{abbreviations_of}
 use Rattle.icu_segmenter.specs.Boundaries.{boundaries_in}
 use Rattle.icu_segmenter.specs.Boundary.{Boundary}
@@ -26,7 +26,7 @@ use Rattle.icu_segmenter_uax14.specs.Lines.{line_machine, line_tailorings}
 use Rattle.icu_segmenter_uax29.specs.Clusters.{cluster_machine}
 use Rattle.icu_segmenter_uax29.specs.Sentences.{sentence_machine}
 use Rattle.icu_segmenter_uax29.specs.TypedWords.{typed_word_machine}
-use Rattle.segment_output.specs.Output.{Segment, segments}
+use Rattle.segment_output.specs.Output.{Segment, segments, shown_boundaries}
 use Rattle.segment_output.specs.declared.segmenter.Engine.{Engine}
 use Rattle.segment_output.specs.declared.segmenter.Engine.TheVariants as engine
 use Rattle.segment_output.specs.declared.segmenter.Kind.{Kind}
@@ -66,6 +66,14 @@ has_words_alone segmenter = false
 -- the segments of such bytes
 abbrev pub segments_by : TextSegmenter → List ℕ → List Segment
 segments_by segmenter bytes = segments (has_words_alone segmenter) (marked (mark_by segmenter) (boundaries_by segmenter bytes))
+
+-- .. between those boundaries that a limit admits
+abbrev pub segments_in : TextSegmenter → (ℕ → Bool) → List ℕ → List Segment
+segments_in segmenter admits bytes = segments (has_words_alone segmenter) (marked (mark_by segmenter) (shown_boundaries admits (boundaries_by segmenter bytes)))
+
+-- .. up to a place
+abbrev pub segments_to : TextSegmenter → ℕ → List ℕ → List Segment
+segments_to segmenter to bytes = segments_in segmenter (λ place. nat_le place to) bytes
 
 -- where a line may end anywhere: at each boundary of a machine, with its status
 abbrev pub anywhere_by : Machine → LineRules

@@ -1,8 +1,8 @@
 //! What is said of segments beside their places.
-ghost use Rattle.std.specs.Prelude.{◌≡◌, ◌==◌};
+ghost use Rattle.std.specs.Prelude.{◌≡◌, ◌==◌, ℕ, nat_le, true, Bool};
 ghost use Rattle.std.specs.Iterator.{YieldsFirst, item_count};
 ghost use Rattle.icu_segmenter.specs.TextSegments.{marked};
-ghost use Rattle.segment_output.specs.Output.{is_shown, is_word, unmarked};
+ghost use Rattle.segment_output.specs.Output.{is_shown, is_word, shown_boundaries, shown_places, unmarked};
 ghost use Rattle.segment_output.specs.declared.marks.Mark.TheVariants.{Unmarked, Word, Line, Rule};
 
 use icu_segmenter::options::WordType;
@@ -82,68 +82,116 @@ impl HasMark for bool {
     }
 }
 
-/// The boundaries that an iterator has still to give, each with the mark of the segment that ends there.
-#[derive(Drop)]
-pub struct Marked<B: BreakIterator> {
-    pub breaks: B,
+/// Up to where the segments of a part are written.
+pub trait Limit: Copy {
+    /// Whether a place isn't behind it.
+    ghost holds: { Self → ℕ → Bool };
+
+    /// Whether a place isn't behind it.
+    fn admits(self, place: usize) -> bool
+        ensures { result ≡ holds self place };
 }
 
-impl<M: HasMark, B: BreakIterator<Mark = M>> Iterator for Marked<B> {
-    type Item = (usize, Mark);
+/// Up to the end: all of them.
+#[derive(Clone, Copy)]
+pub struct Whole;
 
-    ghost next_gives = { YieldsFirst (λ s. marked (λ status. M.said (B.mark status)) (B.left s.breaks)) };
-
-    ghost remaining = { item_count (λ s. marked (λ status. M.said (B.mark status)) (B.left s.breaks)) };
+impl Limit for Whole {
+    ghost holds = { λ _ _. true };
 
     #[inline(always)]
-    fn next(&mut self) -> Option<(usize, Mark)> {
-        match self.breaks.next_break() {
-            Some(end) => Some((end.0, end.1.mark())),
-            None => None,
-        }
+    fn admits(self, _place: usize) -> bool {
+        true
     }
 }
 
-/// The boundaries that an iterator has still to give, each unmarked: what is said of the segments is never worked out.
+/// Up to a place: those that end there or before.
+#[derive(Clone, Copy)]
+pub struct UpTo {
+    /// The place, in bytes from the part's start.
+    pub place: usize,
+}
+
+impl Limit for UpTo {
+    ghost holds = { λ limit place. nat_le place limit.place };
+
+    #[inline(always)]
+    fn admits(self, place: usize) -> bool {
+        place <= self.place
+    }
+}
+
+/// The boundaries that an iterator has still to give up to a limit, each with the mark of the segment that ends there.
 #[derive(Drop)]
-pub struct Bare<B: BreakIterator> {
+pub struct Marked<B: BreakIterator, L: Limit> {
+    pub breaks: B,
+    pub limit: L,
+}
+
+impl<M: HasMark, B: BreakIterator<Mark = M>, L: Limit> Iterator for Marked<B, L> {
+    type Item = (usize, Mark);
+
+    ghost next_gives = { YieldsFirst (λ s. marked (λ status. M.said (B.mark status)) (shown_boundaries (L.holds s.limit) (B.left s.breaks))) };
+
+    ghost remaining = { item_count (λ s. marked (λ status. M.said (B.mark status)) (shown_boundaries (L.holds s.limit) (B.left s.breaks))) };
+
+    #[inline(always)]
+    fn next(&mut self) -> Option<(usize, Mark)> {
+        while let Some(end) = self.breaks.next_break() {
+            if self.limit.admits(end.0) {
+                return Some((end.0, end.1.mark()));
+            }
+        }
+        None
+    }
+}
+
+/// The boundaries that an iterator has still to give up to a limit, each unmarked: what is said of the segments is never worked out.
+#[derive(Drop)]
+pub struct Bare<B: BreakIterator, L: Limit> {
     pub places: Places<B>,
+    pub limit: L,
 }
 
-impl<B: BreakIterator> Iterator for Bare<B> {
+impl<B: BreakIterator, L: Limit> Iterator for Bare<B, L> {
     type Item = (usize, Mark);
 
-    ghost next_gives = { YieldsFirst (λ s. unmarked s.places) };
+    ghost next_gives = { YieldsFirst (λ s. unmarked (shown_places (L.holds s.limit) s.places)) };
 
-    ghost remaining = { item_count (λ s. unmarked s.places) };
+    ghost remaining = { item_count (λ s. unmarked (shown_places (L.holds s.limit) s.places)) };
 
     #[inline(always)]
     fn next(&mut self) -> Option<(usize, Mark)> {
-        match self.places.next() {
-            Some(end) => Some((end, Mark::Unmarked)),
-            None => None,
+        while let Some(end) = self.places.next() {
+            if self.limit.admits(end) {
+                return Some((end, Mark::Unmarked));
+            }
         }
+        None
     }
 }
 
-/// The boundaries by rules of the caller's own that an iterator has still to give, each with its status.
+/// The boundaries by rules of the caller's own that an iterator has still to give up to a limit, each with its status.
 #[derive(Drop)]
-pub struct Ruled<B: BreakIterator> {
+pub struct Ruled<B: BreakIterator, L: Limit> {
     pub breaks: B,
+    pub limit: L,
 }
 
-impl<B: BreakIterator<Mark = bool>> Iterator for Ruled<B> {
+impl<B: BreakIterator<Mark = bool>, L: Limit> Iterator for Ruled<B, L> {
     type Item = (usize, Mark);
 
-    ghost next_gives = { YieldsFirst (λ s. marked (λ status. Rule (B.mark status)) (B.left s.breaks)) };
+    ghost next_gives = { YieldsFirst (λ s. marked (λ status. Rule (B.mark status)) (shown_boundaries (L.holds s.limit) (B.left s.breaks))) };
 
-    ghost remaining = { item_count (λ s. marked (λ status. Rule (B.mark status)) (B.left s.breaks)) };
+    ghost remaining = { item_count (λ s. marked (λ status. Rule (B.mark status)) (shown_boundaries (L.holds s.limit) (B.left s.breaks))) };
 
     #[inline(always)]
     fn next(&mut self) -> Option<(usize, Mark)> {
-        match self.breaks.next_break() {
-            Some(end) => Some((end.0, Mark::Rule(end.1))),
-            None => None,
+        while let Some(end) = self.breaks.next_break() {
+            if self.limit.admits(end.0) {
+                return Some((end.0, Mark::Rule(end.1)));
+            }
         }
+        None
     }
 }

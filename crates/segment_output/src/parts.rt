@@ -1,5 +1,5 @@
 //! Texts of which is written part by part, as they come.
-ghost use Rattle.std.specs.Prelude.{◌≡◌, ◌+◌, ◌++◌, ◌⊎◌, ◌<◌, ◌≤◌, length, take, IfErr, IfOk, IfSome, IsTrue, OnErr, OnOk};
+ghost use Rattle.std.specs.Prelude.{◌≡◌, ◌+◌, ◌++◌, ◌⊎◌, ◌<◌, ◌≤◌, drop, length, take, IfErr, IfOk, IfSome, IsTrue, OnErr, OnOk};
 ghost use Rattle.std.specs.List.{list_all};
 ghost use Rattle.std.specs.Io.{ReadsAtMost};
 ghost use Rattle.std.specs.Io.KnownBytes.{Appends, Consumes, IsAtEnd, Keeps, ReadConsumes};
@@ -8,6 +8,7 @@ ghost use Rattle.segment_text.specs.Fault.{IsReadFault};
 ghost use Rattle.segment_output.specs.Parts.{IsAdded, IsBegun, IsPartWritten, MayBeSplit, boundaries_for, count_for, found_for, output_for, printed_behind};
 ghost use Rattle.segment_text.specs.Size.{both_sizes, size_of};
 
+use crate::marks::{UpTo, Whole};
 use crate::output::{Part, Style};
 use crate::segmenter::TextSegmenter;
 use crate::wrapper::Wrapper;
@@ -21,6 +22,12 @@ use std::{io, mem};
 
 // So many bytes are read at once, as many as a pipe holds.
 const BLOCK_LEN: usize = 65536;
+
+// A line, or paragraph, of so many bytes is split at a certain place: shorter ones are faster as they are.
+const LONG_LEN: usize = 1 << 20;
+
+// So many bytes that were held before are looked at again when more have come, for a certain place at their seam.
+const OVERLAP_LEN: usize = 64;
 
 /// What is written of a text.
 #[derive(Clone, Copy)]
@@ -86,7 +93,7 @@ impl<'p> Printing<'p> {
                     style,
                     file,
                 };
-                segmenter.print_part(alloc, part, out)
+                segmenter.print_part(alloc, part, Whole, out)
             }
             Printing::Lines(wrapper) => {
                 wrapper.print(alloc, text, out)?;
@@ -97,8 +104,9 @@ impl<'p> Printing<'p> {
 }
 
 /// Writes what is written of a text that a reader has, split behind its line feeds or, where lines are joined, behind its blank lines: each time
-/// that the reader gives some bytes, the lines or paragraphs that end with them. It takes memory for the longest of them. The errors are
-/// those of the reader, where whole lines or paragraphs of what it gave are written and nothing of the rest, and of the writer.
+/// that the reader gives some bytes, the lines or paragraphs that end with them. Where they end none, a megabyte is held, and segments of the text
+/// as it stands are written, those up to the last certain place. It takes memory for the longest part. The errors are those of the reader, where what was split
+/// off of what it gave is written and nothing of the rest, and of the writer.
 pub fn print_parts<I: Read, O: Write>(
     alloc: Global,
     splitting: Splitting<'_>,
@@ -144,7 +152,7 @@ fn add_block<O: Write>(
     ensures unwritten { IfErr result (λ fault. IsReadFault fault → out.new ≡ out.old) }
 {
     let Some(len) = whole_len(splitting.preparation.joins, block) else {
-        return hold(block, &mut progress.held);
+        return add_amid(splitting, block, progress, out);
     };
     let (whole, rest) = block.split_at(len);
     hold(whole, &mut progress.held)?;
@@ -152,6 +160,45 @@ fn add_block<O: Write>(
     hold(rest, &mut next)?;
     let part = mem::replace(&mut progress.held, next);
     print_part(splitting, part, progress, out)
+}
+
+// Adds a block that ends no line or paragraph: where much is held, and segments of the text as it stands are written, those up to the last
+// certain place are.
+fn add_amid<O: Write>(
+    splitting: Splitting<'_>,
+    block: &[u8],
+    progress: &mut Progress,
+    out: &mut O,
+) -> Result<(), Fault>
+    ensures added { OnOk result (IsAdded splitting.entry block.now progress.old progress.new (out.new ≡ out.old) (O.contents out.old) (O.contents out.new)) }
+    ensures unwritten { IfErr result (λ fault. IsReadFault fault → out.new ≡ out.old) }
+{
+    let least = progress.held.len().saturating_sub(OVERLAP_LEN);
+    hold(block, &mut progress.held)?;
+    if progress.held.len() < LONG_LEN {
+        return Ok(());
+    }
+    let Printing::Segments(segmenter, style, file) = splitting.printing else {
+        return Ok(());
+    };
+    if splitting.preparation.tabs.is_some() || splitting.preparation.joins {
+        return Ok(());
+    }
+    let Some(place) = segmenter.last_split(progress.held.as_slice(), least) else {
+        return Ok(());
+    };
+    let alloc = *progress.held.allocator();
+    let held = progress.keep_from(place)?;
+    let part = Part {
+        bytes: held.as_slice(),
+        before: progress.made,
+        style,
+        file,
+    };
+    match segmenter.print_part(alloc, part, UpTo { place }, out) {
+        Ok(segments) => progress.count(Size::of(&held[..place]), place, segments),
+        Err(error) => Err(Fault::of_writing(error)),
+    }
 }
 
 // Writes what is held, which is the text's last part.
@@ -197,6 +244,20 @@ fn print_part<O: Write>(
 }
 
 impl Progress {
+    // Keeps of what is held what stands from a place on, and gives all that was held. The fault is being out of memory.
+    fn keep_from(&mut self, place: usize) -> Result<Vec<u8>, Fault>
+        requires { place ≤ length self.old.held.items }
+        ensures held { OnOk result (self.new.held.items ≡ drop place self.old.held.items) }
+        ensures all { IfOk result (λ held. held ≡ self.old.held) }
+        ensures size { self.new.size ≡ self.old.size }
+        ensures made { self.new.made ≡ self.old.made }
+        ensures segments { self.new.segments ≡ self.old.segments }
+    {
+        let mut rest = Vec::new(*self.held.allocator());
+        hold(&self.held[place..], &mut rest)?;
+        Ok(mem::replace(&mut self.held, rest))
+    }
+
     // Counts a part more. The error is that no `usize` counts all.
     fn count(&mut self, size: Size, made: usize, segments: usize) -> Result<(), Fault>
         ensures size { OnOk result (self.new.size ≡ both_sizes self.old.size size) }

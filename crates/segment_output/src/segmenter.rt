@@ -1,26 +1,26 @@
 //! Segmenters by Unicode's data.
-ghost use Rattle.std.specs.Prelude.{◌≡◌, length, IfOk, IsTrue};
+ghost use Rattle.std.specs.Prelude.{◌≡◌, ◌≤◌, length, IfOk, IfSome, IsTrue};
 ghost use Rattle.std.specs.Option.{option_map};
 ghost use Rattle.std.specs.Io.KnownBytes.{Appends};
-ghost use Rattle.segment_output.specs.Output.{lines_at, look_of, segments};
+ghost use Rattle.segment_output.specs.Output.{lines_at, look_of, segments, shown_boundaries};
 ghost use Rattle.icu_segmenter.specs.Abbreviations.{abbreviations_of};
 ghost use Rattle.icu_segmenter.specs.Boundaries.{IsCover};
 ghost use Rattle.icu_segmenter.specs.Clusters.{owned_cluster_rules, owned_sentence_rules};
 ghost use Rattle.icu_segmenter.specs.Lines.{line_rules, owned_line_rules};
 ghost use Rattle.icu_segmenter.specs.Decoding.{utf8};
-ghost use Rattle.icu_segmenter.specs.NearBoundaries.{line_feed};
+ghost use Rattle.icu_segmenter.specs.NearBoundaries.{SplitsAt, line_feed};
 ghost use Rattle.icu_segmenter.specs.Rules.{PartsBehind};
 ghost use Rattle.icu_segmenter.specs.ScriptWords.{script_words};
 ghost use Rattle.icu_segmenter.specs.Suppressing.{suppressing_finder};
 ghost use Rattle.icu_segmenter.specs.TextSegments.{marked};
 ghost use Rattle.icu_segmenter.specs.Words.{owned_word_rules};
-ghost use Rattle.segment_output.specs.TextSegmenter.{anywhere_by, boundaries_by, cluster_rules_by, line_rules_by, line_rules_of, segments_by, sentence_rules_by, suppressed_finder, word_rules_by, IsAskedOf};
+ghost use Rattle.segment_output.specs.TextSegmenter.{anywhere_by, boundaries_by, cluster_rules_by, line_rules_by, line_rules_of, segments_in, sentence_rules_by, suppressed_finder, word_rules_by, IsAskedOf};
 ghost use Rattle.segment_output.specs.declared.marks.Mark.TheVariants.{Rule};
 
-use crate::marks::{Bare, HasMark, Marked, Ruled};
+use crate::marks::{Bare, HasMark, Limit, Marked, Ruled};
 use crate::output::{Part, print_segments};
 use crate::vocabulary::Vocabulary;
-use icu_segmenter::cursor::BoundaryFinder;
+use icu_segmenter::cursor::{BoundaryFinder, last_split};
 use icu_segmenter::options::{LineBreakOptions, LineBreakStrictness};
 use icu_segmenter::provider::{
     DataError, Dictionaries, LineTailoringsBorrowed, SegmenterStateMachine,
@@ -81,100 +81,113 @@ pub enum TextSegmenter {
 }
 
 impl TextSegmenter {
-    /// Writes the segments of a part of a text, each on a line of its own, flushes, and says how many there are: the first begins at its
-    /// start, and the last ends at its end. The errors are the writer's, and being out of memory.
-    pub fn print_part<O: Write>(
+    /// Writes the segments of a part of a text up to a limit, each on a line of its own, flushes, and says how many there are. All its segments
+    /// cover the part: the first begins at its start, and the last ends at its end. The errors are the writer's, and being out of memory.
+    pub fn print_part<L: Limit, O: Write>(
         &self,
         alloc: Global,
         part: Part<'_>,
+        limit: L,
         out: &mut O,
     ) -> io::Result<usize>
         ensures cover { IsCover 0 (length part.entry.bytes.now) (boundaries_by self.now part.entry.bytes.now) }
-        ensures written { IfOk result (λ count. (count ≡ length (segments_by self.now part.entry.bytes.now))
-            × Appends (O.contents out.old) (O.contents out.new) (lines_at (look_of part.entry) part.entry.before part.entry.bytes.now (segments_by self.now part.entry.bytes.now))) }
+        ensures written { IfOk result (λ count. (count ≡ length (segments_in self.now (L.holds limit) part.entry.bytes.now))
+            × Appends (O.contents out.old) (O.contents out.new) (lines_at (look_of part.entry) part.entry.before part.entry.bytes.now (segments_in self.now (L.holds limit) part.entry.bytes.now))) }
     {
         match self {
             TextSegmenter::Clusters(clusters) => {
-                let places = clusters.as_borrowed().segment_utf8(part.bytes);
-                print_breaks(alloc, places, false, part, out)
+                let breaks = clusters.as_borrowed().segment_utf8(part.bytes);
+                print_breaks(alloc, Found { breaks, limit }, false, part, out)
             }
             TextSegmenter::Words(words, alone) => {
-                let places = words.as_borrowed().segment_utf8(part.bytes);
-                print_breaks(alloc, places, *alone, part, out)
+                let breaks = words.as_borrowed().segment_utf8(part.bytes);
+                print_breaks(alloc, Found { breaks, limit }, *alone, part, out)
             }
             TextSegmenter::Sentences(sentences) => {
-                let places = sentences.as_borrowed().segment_utf8(part.bytes);
-                print_breaks(alloc, places, false, part, out)
+                let breaks = sentences.as_borrowed().segment_utf8(part.bytes);
+                print_breaks(alloc, Found { breaks, limit }, false, part, out)
             }
             TextSegmenter::Suppressing(sentences, abbreviations) => {
-                let places = suppressing(sentences, abbreviations).segment_utf8(part.bytes);
-                print_breaks(alloc, places, false, part, out)
+                let breaks = suppressing(sentences, abbreviations).segment_utf8(part.bytes);
+                print_breaks(alloc, Found { breaks, limit }, false, part, out)
             }
             TextSegmenter::Lines(lines) => {
-                let places = lines.as_borrowed().segment_utf8(part.bytes);
-                print_breaks(alloc, places, false, part, out)
+                let breaks = lines.as_borrowed().segment_utf8(part.bytes);
+                print_breaks(alloc, Found { breaks, limit }, false, part, out)
             }
             TextSegmenter::Ruled(machine, alone) => {
-                let places = anywhere(machine).segment_utf8(part.bytes);
-                print_ruled(alloc, places, *alone, part, out)
+                let breaks = anywhere(machine).segment_utf8(part.bytes);
+                print_ruled(alloc, Found { breaks, limit }, *alone, part, out)
             }
         }
     }
 }
 
-// Writes the segments between the boundaries that come, or words alone, with what is said of each.
-#[inline(always)]
-fn print_marked<M: HasMark, B: BreakIterator<Mark = M>, O: Write>(
-    alloc: Global,
+// The boundaries that are found in a part, and up to where its segments are written.
+#[derive(Drop)]
+struct Found<B: BreakIterator, L: Limit> {
     breaks: B,
+    limit: L,
+}
+
+// Writes the segments between the boundaries that come up to the limit, or words alone, with what is said of each.
+#[inline(always)]
+fn print_marked<M: HasMark, B: BreakIterator<Mark = M>, L: Limit, O: Write>(
+    alloc: Global,
+    found: Found<B, L>,
     alone: bool,
     part: Part<'_>,
     out: &mut O,
 ) -> io::Result<usize>
     ensures { IfOk result (λ count.
-        let found = segments alone (marked (λ status. M.said (B.mark status)) (B.left breaks)) in
-        (count ≡ length found) × Appends (O.contents out.old) (O.contents out.new) (lines_at (look_of part.entry) part.entry.before part.entry.bytes.now found)) }
+        let shown = segments alone (marked (λ status. M.said (B.mark status)) (shown_boundaries (L.holds found.limit) (B.left found.breaks))) in
+        (count ≡ length shown) × Appends (O.contents out.old) (O.contents out.new) (lines_at (look_of part.entry) part.entry.before part.entry.bytes.now shown)) }
 {
-    let mut places = Marked { breaks };
+    let Found { breaks, limit } = found;
+    let mut places = Marked { breaks, limit };
     print_segments(alloc, &mut places, alone, part, out)
 }
 
-// Writes the segments between the boundaries that come, or words alone. What is said of each is worked out only where that is asked for.
+// Writes the segments between the boundaries that come up to the limit, or words alone. What is said of each is worked out only where that is asked for.
 #[inline(always)]
-fn print_breaks<M: HasMark, B: BreakIterator<Mark = M>, O: Write>(
+fn print_breaks<M: HasMark, B: BreakIterator<Mark = M>, L: Limit, O: Write>(
     alloc: Global,
-    breaks: B,
+    found: Found<B, L>,
     alone: bool,
     part: Part<'_>,
     out: &mut O,
 ) -> io::Result<usize>
     ensures { IfOk result (λ count.
-        let found = segments alone (marked (λ status. M.said (B.mark status)) (B.left breaks)) in
-        (count ≡ length found) × Appends (O.contents out.old) (O.contents out.new) (lines_at (look_of part.entry) part.entry.before part.entry.bytes.now found)) }
+        let shown = segments alone (marked (λ status. M.said (B.mark status)) (shown_boundaries (L.holds found.limit) (B.left found.breaks))) in
+        (count ≡ length shown) × Appends (O.contents out.old) (O.contents out.new) (lines_at (look_of part.entry) part.entry.before part.entry.bytes.now shown)) }
 {
     if part.style.asks_marks(alone) {
-        return print_marked(alloc, breaks, alone, part, out);
+        return print_marked(alloc, found, alone, part, out);
     }
+    let Found { breaks, limit } = found;
     let mut places = Bare {
         places: breaks.into_places(),
+        limit,
     };
     print_segments(alloc, &mut places, false, part, out)
 }
 
-// Writes the segments between the boundaries that come by rules of the caller's own, or those alone that end at one without status 1.
+// Writes the segments between the boundaries that come up to the limit by rules of the caller's own, or those alone that end at one
+// without status 1.
 #[inline(always)]
-fn print_ruled<B: BreakIterator<Mark = bool>, O: Write>(
+fn print_ruled<B: BreakIterator<Mark = bool>, L: Limit, O: Write>(
     alloc: Global,
-    breaks: B,
+    found: Found<B, L>,
     alone: bool,
     part: Part<'_>,
     out: &mut O,
 ) -> io::Result<usize>
     ensures { IfOk result (λ count.
-        let found = segments alone (marked (λ status. Rule (B.mark status)) (B.left breaks)) in
-        (count ≡ length found) × Appends (O.contents out.old) (O.contents out.new) (lines_at (look_of part.entry) part.entry.before part.entry.bytes.now found)) }
+        let shown = segments alone (marked (λ status. Rule (B.mark status)) (shown_boundaries (L.holds found.limit) (B.left found.breaks))) in
+        (count ≡ length shown) × Appends (O.contents out.old) (O.contents out.new) (lines_at (look_of part.entry) part.entry.before part.entry.bytes.now shown)) }
 {
-    let mut places = Ruled { breaks };
+    let Found { breaks, limit } = found;
+    let mut places = Ruled { breaks, limit };
     print_segments(alloc, &mut places, alone, part, out)
 }
 
@@ -195,6 +208,26 @@ impl TextSegmenter {
             }
             TextSegmenter::Lines(lines) => lines.as_borrowed().parts_behind_line_feeds(),
             TextSegmenter::Ruled(machine, _) => anywhere(machine).parts_behind_line_feeds(),
+        }
+    }
+
+    /// The last place in the beginning of a text where it may be split, whatever comes behind these bytes, as far as certain places tell:
+    /// what stands from `least` on is looked at. Takes no memory.
+    pub fn last_split(&self, bytes: &[u8], least: usize) -> Option<usize>
+        ensures within { IfSome result (λ place. place ≤ length bytes.now) }
+        ensures splits { IfSome result (SplitsAt (boundaries_by self.now) bytes.now) }
+    {
+        match self {
+            TextSegmenter::Clusters(clusters) => last_split(&clusters.as_borrowed(), bytes, least),
+            TextSegmenter::Words(words, _) => last_split(&words.as_borrowed(), bytes, least),
+            TextSegmenter::Sentences(sentences) => last_split(
+                &sentences.as_borrowed(),
+                bytes,
+                least,
+            ),
+            TextSegmenter::Suppressing(_, _) => None,
+            TextSegmenter::Lines(lines) => last_split(&lines.as_borrowed(), bytes, least),
+            TextSegmenter::Ruled(machine, _) => last_split(&anywhere(machine), bytes, least),
         }
     }
 }

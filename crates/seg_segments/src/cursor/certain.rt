@@ -11,7 +11,7 @@ use crate::segments::Source;
 use seg_text::cursor::Cursor;
 
 // How many units before the place are looked at first. Each time none is found there, twice as many are.
-const NEAR: usize = 64;
+pub(super) const NEAR: usize = 64;
 
 /// A place up to another one where the text may be cut: not far before it, if one is known there, and else the start.
 pub(super) fn start_before<T: CursorText, S: BoundaryFinder>(
@@ -57,7 +57,7 @@ fn start_in<T: CursorText, S: BoundaryFinder>(
 }
 
 /// The place of an item at or before another place: the nearest that its first unit tells, or the start.
-fn item_start<T: CursorText>(text: T, place: usize) -> usize
+pub(super) fn item_start<T: CursorText>(text: T, place: usize) -> usize
     requires { place ≤ length (T.units text) }
     ensures { (result ≡ 0) ⊎ IsPlace (T.Source.decode (T.units text)) result }
 {

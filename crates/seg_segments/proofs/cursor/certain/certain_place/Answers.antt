@@ -15,7 +15,7 @@ pub loop-at-preserved-then-always_breaks : goal.loop-at-preserved-then-always_br
 loop-at-preserved-then-always_breaks g c = record {
   read = reads-next _ _ _ _ _ _ _ c.loop-at.invariant.read c.in-Some.ensures.gives c.in-Some.ensures.end;
   order = omega (arith, c.if-at-place.false);
-  certain = certain-here (g.S.BoundaryFinder.find c.args.segmenter.now) _ _ _ _ _ _ _ c.loop-at.invariant.read c.in-Some.ensures.gives (c.always_breaks.ensures c.if-always_breaks.true);
+  certain = certain-here (g.S.BoundaryFinder.find c.args.segmenter.now) _ _ _ _ _ _ _ c.loop-at.invariant.read c.in-Some.ensures.gives (c.always_breaks.ensures.breaks c.if-always_breaks.true);
 }
 
 pub loop-at-preserved : goal.loop-at-preserved

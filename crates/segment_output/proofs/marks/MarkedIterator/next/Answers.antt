@@ -1,11 +1,19 @@
--- The first of them, or none.
-use Rattle.segment_output.proofs.MarkedPlaces.{first-marked, none-marked}
+-- The first of them up to the limit, or none.
+use Rattle.std.proofs.Common.{refl}
+use Rattle.seg_text.proofs.Cursors.{fewer-left}
+use Rattle.segment_output.proofs.MarkedPlaces.{marks_up_to, next-marked, none-marked, passes-over}
 use Rattle.segment_output.proofs.marks.MarkedIterator.next.Goals as goal
 
-pub returns-in-Some-clause-steps : goal.returns-in-Some-clause-steps
-returns-in-Some-clause-steps g c =
-    first-marked g.B.BreakIterator.mark g.M.HasMark.said g.B.BreakIterator.left _ _ _ c.in-Some.end c.mark.result c.next_break.ensures c.in-Some.is c.mark.ensures
+pub returns-then-admits-clause-steps : goal.returns-then-admits-clause-steps
+returns-then-admits-clause-steps g c =
+    next-marked g.B.BreakIterator.mark g.M.HasMark.said g.B.BreakIterator.left g.L.Limit.holds _ _ c.loop-end.invariant.0 _ _ _ _ c.loop-end.invariant.1 c.next_break.ensures c.in-Some.end c.mark.result _ c.in-Some.is c.mark.ensures c.admits.ensures c.if-admits.true
 
-pub returns-in-None-clause-steps : goal.returns-in-None-clause-steps
-returns-in-None-clause-steps g c =
-    none-marked g.B.BreakIterator.mark g.M.HasMark.said g.B.BreakIterator.left _ _ _ c.next_break.ensures c.in-None.is
+pub returns-then-admits-clause-goes : goal.returns-then-admits-clause-goes
+returns-then-admits-clause-goes g c = fewer-left (λ s. marks_up_to g.B.BreakIterator.mark g.M.HasMark.said g.B.BreakIterator.left g.L.Limit.holds s.limit s.breaks) _ _ _ (returns-then-admits-clause-steps g c)
+
+pub loop-end-preserved : goal.loop-end-preserved
+loop-end-preserved g c =
+    (c.loop-end.invariant.0, passes-over g.B.BreakIterator.mark g.M.HasMark.said g.B.BreakIterator.left g.L.Limit.holds _ _ c.loop-end.invariant.0 _ _ _ _ c.loop-end.invariant.1 c.next_break.ensures c.in-Some.end _ c.in-Some.is c.admits.ensures c.if-admits.false)
+
+pub returns-clause-steps : goal.returns-clause-steps
+returns-clause-steps g c = none-marked g.B.BreakIterator.mark g.M.HasMark.said g.B.BreakIterator.left g.L.Limit.holds _ _ c.loop-end.invariant.0 _ _ _ _ c.loop-end.invariant.1 c.next_break.ensures c.in_default.is
