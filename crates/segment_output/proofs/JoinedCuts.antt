@@ -11,7 +11,7 @@ use Rattle.icu_segmenter.specs.Boundaries.{IsCover, RisesTo, offsets, shift_all}
 use Rattle.icu_segmenter.specs.NearBoundaries.{up_to}
 use Rattle.icu_segmenter.proofs.Callers.{has-cases, has-none}
 use Rattle.segment_text.specs.Escapes.{escaped}
-use Rattle.segment_output.specs.Output.{Look, Segment, is_shown, later, line_at, line_in, line_with, lines_at, object_of}
+use Rattle.segment_output.specs.Output.{Look, Segment, is_shown, later, line_at, line_in, line_of, line_with, lines_at, lines_of, object_of}
 use Rattle.segment_output.specs.declared.marks.Mark.{Mark}
 use Rattle.segment_output.specs.declared.output.Style.{Style}
 use Rattle.segment_output.specs.declared.output.Style.TheVariants.{Escaped, Raw, ZeroEnded, Json, Offsets, Counted}
@@ -163,6 +163,17 @@ later-twice n m segment =
     let starts : n + (m + segment.from) ≡ n + m + segment.from = omega arith in
     let ends : n + (m + segment.to) ≡ n + m + segment.to = omega arith in
     rw (starts, ends) refl
+
+-- behind nothing places are those of the whole text
+line-at_zero : (look : Look) (text : List ℕ) (segment : Segment) → line_at look 0 text segment ≡ line_of look text segment
+line-at_zero look text segment =
+    let starts : 0 + segment.from ≡ segment.from = omega arith in
+    let ends : 0 + segment.to ≡ segment.to = omega arith in
+    rw (starts, ends) refl
+
+pub lines-at_zero : (look : Look) (text : List ℕ) (segments : List Segment) → lines_at look 0 text segments ≡ lines_of look text segments
+lines-at_zero look text [] = refl
+lines-at_zero look text (segment ∷ segments) = ap₂ (λ (line lines : List ℕ). line ++ lines) (line-at_zero look text segment) (lines-at_zero look text segments)
 
 lines-kept : (f g : Segment → List ℕ) (is : Bool) (segment : Segment) (segments : List Segment) → f segment ≡ g segment → flat_map f segments ≡ flat_map g segments
     → flat_map f (cond is (segment ∷ segments) segments) ≡ flat_map g (cond is (segment ∷ segments) segments)
