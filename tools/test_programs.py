@@ -9,7 +9,7 @@ and what it must say on standard error, or how that begins where it has no line 
 standard output that takes nothing, and says what it must complain of; with `unread: WORDS, STATUS, COMPLAINT` it has the first, and mustn't see it.
 `comes: WORDS, TEXT, WANTED, REST, WANTED` has the first text written while the rest hasn't come. `pieces: WORDS, TEXT, COUNT, REST` has the text so
 often, and then the rest, and asks whether the same is written where it comes in small pieces. `parts: WORDS, TEXT, COUNT, REST` has
-such a text split after line feeds, and asks whether the outputs of the parts are that of the whole. `small: MEGABYTES, ROW` has a row's program take no
+such a text split after line feeds, and asks whether the outputs of the parts are that of the whole, and `splits:` where `--split` says. `small: MEGABYTES, ROW` has a row's program take no
 more memory, and what it reads and must write come so often as a last number says. `set: NAME=VALUE, ROW` has a row's program find that
 in its environment. Other lines say nothing. Each row is asked of what either compiler built.
 
@@ -136,13 +136,30 @@ def write_each(pipe, pieces):
 class Parts(Row):
     """A run that must write of a text what it writes of its parts, which are split after line feeds, one after another."""
 
+    def parts(self, _program, _folder):
+        """Returns the parts of what it reads."""
+        return re.findall(rb"(?s).{%d}[^\n]*\n|.+" % PART, self.given)
+
     def fault(self, program, folder):
         def written(text):
             return subprocess.run([program, *self.words], input=text, capture_output=True, cwd=folder, timeout=60, check=True).stdout
 
-        parts = re.findall(rb"(?s).{%d}[^\n]*\n|.+" % PART, self.given)
+        parts = self.parts(program, folder)
         whole, joined = written(self.given), b"".join(map(written, parts))
         return None if whole == joined and len(parts) > 1 else f"{shlex.join(self.words)}: {len(whole)} bytes, and of {len(parts)} parts {len(joined)}"
+
+
+@dataclass
+class Splits(Parts):
+    """.. which are split where the program itself says."""
+
+    def parts(self, program, folder):
+        """Returns those that it says there are, if they have as many bytes as is asked for, and are the whole."""
+        command = [program, *self.words, "--split", str(PART)]
+        ran = subprocess.run(command, input=self.given, capture_output=True, cwd=folder, timeout=60, check=True)
+        ends = [tuple(map(int, line.split())) for line in ran.stdout.splitlines()]
+        parts = [self.given[begin:end] for begin, end in ends]
+        return parts if b"".join(parts) == self.given and all(len(part) >= PART for part in parts[:-1]) else []
 
 
 @dataclass
@@ -180,7 +197,7 @@ def read(path, folder_as_input, full):
     with open(path, encoding="utf-8") as it:
         for number, line in enumerate(it, 1):
             kind, said = ("row", line) if line.startswith(('"', "'")) else line.partition(": ")[::2]
-            if kind not in ("row", "writes", "file", "copies", "devices", "unread", "comes", "pieces", "parts", "small", "set"):
+            if kind not in ("row", "writes", "file", "copies", "devices", "unread", "comes", "pieces", "parts", "splits", "small", "set"):
                 continue
             place, fields = f"{os.path.basename(path)}:{number}", ast.literal_eval(f"({said.strip()},)")
             if kind == "file":
@@ -200,9 +217,9 @@ def read(path, folder_as_input, full):
             elif kind == "comes":
                 words, given, wanted, later, wanted_later = map(as_bytes, fields)
                 found.rows.append(Comes(place, shlex.split(words.decode()), given, wanted, later=later, wanted_later=wanted_later))
-            elif kind in ("pieces", "parts"):
+            elif kind in ("pieces", "parts", "splits"):
                 words, text, count, rest = fields
-                made = Pieces if kind == "pieces" else Parts
+                made = {"pieces": Pieces, "parts": Parts, "splits": Splits}[kind]
                 found.rows.append(made(place, shlex.split(words), as_bytes(text) * count + as_bytes(rest)))
             elif kind == "small":
                 megabytes, words, given, wanted, count, *rest = fields

@@ -7,7 +7,8 @@ use Rattle.segment_text.specs.Counts.{count_line}
 use Rattle.segment_output.specs.Output.{Look, lines_at}
 use Rattle.segment_output.specs.Parts.{IsBegun, count_for, found_for, output_for, printed_behind, text_for}
 use Rattle.segment_text.specs.Preparation.{prepared}
-use Rattle.segment_output.specs.TextSegmenter.{segments_by}
+use Rattle.segment_output.specs.Splits.{AreParts}
+use Rattle.segment_output.specs.TextSegmenter.{boundaries_by, segments_by}
 use Rattle.segment_output.specs.Limited.{Bound, IsSetOutput}
 use Rattle.segment_output.specs.Paragraphs.{AppendsSome, Choosing, chosen_by}
 use Rattle.segment_output.specs.Wrapped.{wrapped_output}
@@ -30,7 +31,7 @@ use Rattle.segment_output.specs.declared.wrapper.Wrapper.{Wrapper}
 use Rattle.segment.specs.declared.job.Job.{Job}
 use Rattle.segment.specs.declared.job.Action.{Action}
 use Rattle.segment.specs.declared.job.ParagraphAction.{ParagraphAction}
-use Rattle.segment.specs.declared.job.Action.TheVariants.{Cut, Paragraphs, Wrap}
+use Rattle.segment.specs.declared.job.Action.TheVariants.{Cut, Paragraphs, Split, Wrap}
 
 module _ (job : Job) (name : Option (List ℕ)) where
   counted : (bytes : List ℕ) (old mid new : Option (List ℕ)) (numbers : AskedCounts) (tally : Tally) → numbers_of job.action ≡ Some numbers → IsTally job bytes tally
@@ -79,19 +80,21 @@ begun-whole P Q (Err fault) is = λ of_reader. inl (is of_reader)
 
 -- what is written part by part is what is written of the whole
 module _ (file : Option (List ℕ)) where
-  pub printed-split : (action : Action) (printing : Printing) (text : List ℕ) → IsPrintingOf action file printing → IsActionOutput action file text (printed_behind printing 0 text)
-  printed-split (Cut segmenter style) (Segments one how name) text (same, is, named) =
+  pub printed-split : (action : Action) (printing : Printing) (text : List ℕ) → IsPrintingOf action file printing → (bytes : List ℕ) → IsActionOutput action file bytes text (printed_behind printing 0 text)
+  printed-split (Cut segmenter style) (Segments one how name) text (same, is, named) bytes =
       ap₂ (λ (segmenter : TextSegmenter) (look : Look). lines_at look 0 text (segments_by segmenter text)) same
       (ap₂ (λ (style : Style) (file : Option (List ℕ)). let look : Look = record { style = style; file = file } in look) is named)
       ∙ lines-at_zero (record { style = style; file = file }) text (segments_by segmenter text)
-  printed-split (Cut segmenter style) (Lines one) text is = absurd is
-  printed-split (Wrap wrapper) (Segments one how name) text is = absurd is
-  printed-split (Wrap wrapper) (Lines one) text is = ap (λ (wrapper : Wrapper). wrapped_output (wrapping_of wrapper) text) is
-  printed-split (Paragraphs action) printing text is = absurd is
+  printed-split (Cut segmenter style) (Lines one) text is bytes = absurd is
+  printed-split (Split segmenter least) printing text is bytes = absurd is
+  printed-split (Wrap wrapper) (Segments one how name) text is bytes = absurd is
+  printed-split (Wrap wrapper) (Lines one) text is bytes = ap (λ (wrapper : Wrapper). wrapped_output (wrapping_of wrapper) text) is
+  printed-split (Paragraphs action) printing text is bytes = absurd is
 
   count-split : (action : Action) (printing : Printing) (text : List ℕ) → IsPrintingOf action file printing → count_for printing text ≡ count_by action text
   count-split (Cut segmenter style) (Segments one how name) text (same, is, named) = ap (λ (segmenter : TextSegmenter). length (segments_by segmenter text)) same
   count-split (Cut segmenter style) (Lines one) text is = absurd is
+  count-split (Split segmenter least) printing text is = absurd is
   count-split (Wrap wrapper) (Segments one how name) text is = absurd is
   count-split (Wrap wrapper) (Lines one) text is = refl
   count-split (Paragraphs action) printing text is = absurd is
@@ -104,7 +107,7 @@ module _ (file : Option (List ℕ)) where
   all-split job splitting (Some bytes) old new (Ok tally) (same, is) (count, size, written) =
       let text : text_for splitting bytes ≡ text_of job bytes = ap (λ (preparation : Preparation). prepared preparation bytes) same in
       let printed : IsPrintedBy job file bytes (output_for splitting bytes) =
-      subst (IsPrintedBy job file bytes) (sym (ap (printed_behind splitting.printing 0) text)) (printed-split job.action splitting.printing (text_of job bytes) is) in
+      subst (IsPrintedBy job file bytes) (sym (ap (printed_behind splitting.printing 0) text)) (printed-split job.action splitting.printing (text_of job bytes) is bytes) in
       ((count ∙ ap (count_for splitting.printing) text ∙ count-split job.action splitting.printing (text_of job bytes) is, size), (output_for splitting bytes, printed, written))
 
   -- and of balanced lines all is written at once
@@ -115,6 +118,14 @@ module _ (file : Option (List ℕ)) where
   all-paragraphs job action read old new (Err fault) is all = tt
   all-paragraphs job action None old new (Ok tally) is all = tt
   all-paragraphs job action (Some bytes) old new (Ok tally) is (count, size, written) = rw is ((count, size), written)
+
+  -- of parts too
+  pub all-parts : (job : Job) (segmenter : TextSegmenter) (least : ℕ) (read old new : Option (List ℕ)) (r : Result Tally Fault) → job.action ≡ Split segmenter least
+      → IfOk r (λ tally. IfSome read (λ bytes. (tally.segments ≡ 0) × (tally.size ≡ size_of bytes) × AppendsSome old new (AreParts (boundaries_by segmenter) least file bytes)))
+      → IfOk r (λ tally. IfSome read (λ bytes. IsTally job bytes tally × AppendsSome old new (IsPrintedBy job file bytes)))
+  all-parts job segmenter least read old new (Err fault) is all = tt
+  all-parts job segmenter least None old new (Ok tally) is all = tt
+  all-parts job segmenter least (Some bytes) old new (Ok tally) is (count, size, written) = rw is ((count, size), written)
 
   pub begun-split : (job : Job) (splitting : Splitting) (from to old new : Option (List ℕ)) (P : Type 0) (r : Result Tally Fault) → IsDoneBy job file splitting
       → IfErr r (λ fault. IsReadFault fault → P ⊎ IsBegun splitting from to old new) → IfErr r (λ fault. IsReadFault fault → P ⊎ IsBegunBy job file from to old new)

@@ -20,6 +20,8 @@ use Rattle.segment_output.specs.declared.segmenter.Kind.TheVariants as kind
 use Rattle.segment.specs.declared.command.Request.{Request}
 use Rattle.segment.specs.declared.command.RequestedAction.{RequestedAction}
 use Rattle.segment.specs.declared.command.RequestedAction.TheVariants.{Cut, Paragraphs, Wrap}
+use Rattle.segment.specs.declared.command.Written.{Written}
+use Rattle.segment.specs.declared.command.Written.TheVariants.{Segments, Parts}
 use Rattle.seg_wrap.specs.declared.wrap.paragraphs.Fit.{Fit}
 use Rattle.seg_wrap.specs.declared.wrap.paragraphs.Fit.TheVariants.{Balanced, First}
 use Rattle.segment_text.specs.declared.limit.Limit.{Limit}
@@ -151,6 +153,23 @@ IsStyle found Escaped =
     IsFlag found (codes "count") false × IsFlag found (codes "offsets") false × IsFlag found (codes "null") false
     × IsFlag found (codes "json") false × IsFlag found (codes "raw") false
 
+-- of how many bytes parts are at least, where they are written
+abbrev pub least_of : Written → Option ℕ
+least_of (Segments style) = None
+least_of (Parts least) = Some least
+
+-- segments have the style that is named, and parts a byte or more
+abbrev pub IsWell : Found → Written → Type 0
+IsWell found (Segments style) = IsStyle found style
+IsWell found (Parts least) = 0 < least
+
+-- what is written is what is named: parts of as many bytes as are said, or segments
+abbrev pub IsWritten : Found → Written → Type 0
+IsWritten found written =
+    (one_text found (codes "split") ≡ None → least_of written ≡ None)
+    × ((digits : List ℕ) → one_text found (codes "split") ≡ Some digits → IsNumeral 10 digits → digits_value 10 digits < 2 ^ 64 → least_of written ≡ Some (digits_value 10 digits))
+    × IsWell found written
+
 -- lines are chosen as it is named: balanced, or each filled as far as it goes
 abbrev pub IsChosen : Found → Fit → Type 0
 IsChosen found Balanced = IsFlag found (codes "balanced") true
@@ -158,7 +177,7 @@ IsChosen found First = IsFlag found (codes "balanced") false
 
 -- lines are wrapped so: paragraph by paragraph where they are balanced, words are hyphenated, or there may be only so many
 abbrev pub IsWrapping : Found → Width → Option Limit → RequestedAction → Type 0
-IsWrapping found width limit (Cut kind style engine) = ⊥
+IsWrapping found width limit (Cut kind written engine) = ⊥
 IsWrapping found width limit (Wrap to) =
     (to ≡ width) × IsFlag found (codes "balanced") false × (first_value found (codes "hyphenate") ≡ None) × (limit ≡ None)
 IsWrapping found width limit (Paragraphs to setting) = (to ≡ width) × IsChosen found setting.fit × (setting.limit ≡ limit)
@@ -177,10 +196,10 @@ IsLimit found columns limit =
 
 -- an action is the one that is named
 abbrev pub IsRequestedAction : List ℕ → Found → RequestedAction → Type 0
-IsRequestedAction word found (Cut kind style engine) =
+IsRequestedAction word found (Cut kind written engine) =
     (word ≡ kind_word kind)
     × IsFlag found (codes "words") (is_alone kind)
-    × IsStyle found style
+    × IsWritten found written
     × IsEngine (first_value found (codes "engine")) engine
 IsRequestedAction word found action =
     (word ≡ codes "wrap") × ((width : Width) × IsWidth found width × (limit : Option Limit) × IsLimit found width.columns limit × IsWrapping found width limit action)

@@ -18,7 +18,7 @@ choice_of kind.Lines = WithoutCj
 
 -- and those that an action takes
 abbrev pub choice_by : RequestedAction → Choice
-choice_by (Cut kind style engine) = choice_of kind
+choice_by (Cut kind written engine) = choice_of kind
 choice_by (Wrap width) = WithoutCj
 choice_by (Paragraphs width setting) = WithoutCj
 

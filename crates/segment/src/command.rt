@@ -6,7 +6,7 @@ ghost use Rattle.std.specs.Str.{str_to_ascii_lowercase};
 ghost use Rattle.icu_segmenter.specs.declared.provider.ComplexScript.{ComplexScript as AnyScript};
 ghost use Rattle.clap.specs.Matches.{found_of};
 ghost use Rattle.segment_output.specs.declared.segmenter.Kind.{Kind as AnyKind};
-ghost use Rattle.segment.specs.Command.{is_alone, is_control, kind_word, language_part, strictness_word, word_break_word, ArePaired, HasScriptWord, IsChoice, IsEngine, IsRequest, IsStyle, IsRequestedAction, IsIndent, IsLimit, IsWrapping, IsWidth, AreColumns, AreNumbers, AreTabs, IsPreparation};
+ghost use Rattle.segment.specs.Command.{is_alone, is_control, kind_word, language_part, strictness_word, word_break_word, ArePaired, HasScriptWord, IsChoice, IsEngine, IsRequest, IsStyle, IsWritten, IsRequestedAction, IsIndent, IsLimit, IsWrapping, IsWidth, AreColumns, AreNumbers, AreTabs, IsPreparation};
 
 use anyhow::{Context, Result, bail, ensure};
 use clap::ArgMatches;
@@ -21,11 +21,20 @@ use segment_text::counts::AskedCounts;
 use segment_text::limit::Limit;
 use segment_text::preparation::Preparation;
 
+/// What is written of a text that is cut.
+#[derive(Clone, Copy)]
+pub enum Written {
+    /// Its segments, in a style.
+    Segments(Style),
+    /// Where parts of it begin and end that may be cut apart, of so many bytes at least.
+    Parts(usize),
+}
+
 /// What is done to a text.
 #[derive(Clone, Copy)]
 pub enum RequestedAction<'a> {
-    /// It is cut into segments: what is found, how it is written, and what finds the boundaries.
-    Cut(Kind, Style, Engine),
+    /// It is cut into segments: what is found, what is written of it, and what finds the boundaries.
+    Cut(Kind, Written, Engine),
     /// Its lines are wrapped.
     Wrap(Width<'a>),
     /// Its lines are chosen paragraph by paragraph.
@@ -54,7 +63,7 @@ const DEFAULT_COLUMNS: usize = 80;
 const DEFAULT_TABS: usize = 8;
 
 /// What the arguments of a kind of segments ask for. The errors are a word that isn't a kind, lines or tabs without columns, an indent that
-/// leaves none or has control characters, no line or a placeholder like such an indent, a language that isn't one, a dictionary without a script, and a script that is named twice.
+/// leaves none or has control characters, parts of no bytes, no line or a placeholder like such an indent, a language that isn't one, a dictionary without a script, and a script that is named twice.
 pub fn request_of<'a>(kind: &str, matches: &ArgMatches<'a>) -> Result<Request<'a>>
     ensures { IfOk result (IsRequest kind.now (found_of matches.now)) }
 {
@@ -114,7 +123,7 @@ fn action_of<'a>(kind: &str, matches: &ArgMatches<'a>) -> Result<RequestedAction
     }
     let kind = kind_of(kind, matches.get_flag("words"))?;
     let engine = engine_of(matches.get_str("engine"))?;
-    Ok(RequestedAction::Cut(kind, style_of(matches), engine))
+    Ok(RequestedAction::Cut(kind, written_of(matches)?, engine))
 }
 
 // How lines are wrapped to a width, as many as there may be.
@@ -245,8 +254,20 @@ fn kind_of(word: &str, alone: bool) -> Result<Kind>
     }
 }
 
-/// How segments are written.
-pub fn style_of(matches: &ArgMatches<'_>) -> Style
+/// What is written of a text that is cut. The error is parts of no bytes.
+pub fn written_of(matches: &ArgMatches<'_>) -> Result<Written>
+    ensures { IfOk result (IsWritten (found_of matches.now)) }
+{
+    let least: Option<usize> = matches.get_one("split");
+    match least {
+        Some(0) => bail!("a part has at least 1 byte"),
+        Some(least) => Ok(Written::Parts(least)),
+        None => Ok(Written::Segments(style_of(matches))),
+    }
+}
+
+// How segments are written.
+fn style_of(matches: &ArgMatches<'_>) -> Style
     ensures { IsStyle (found_of matches.now) result }
 {
     if matches.get_flag("count") {

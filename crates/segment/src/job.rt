@@ -4,9 +4,9 @@ ghost use Rattle.std.specs.Option.{option_map};
 ghost use Rattle.icu_segmenter.specs.Abbreviations.{abbreviations_of};
 ghost use Rattle.icu_segmenter.specs.ScriptWords.{script_words};
 ghost use Rattle.segment_output.specs.Limited.{bound_of};
-ghost use Rattle.segment.specs.Job.{numbers_of, said_by, AreOptions, IsAsked, IsAskedAction, IsWrapperFor, bound_in};
+ghost use Rattle.segment.specs.Job.{numbers_of, said_by, AreOptions, IsActionOf, IsAsked, IsAskedAction, IsWrapperFor, bound_in};
 
-use crate::command::{Request, RequestedAction};
+use crate::command::{Request, RequestedAction, Written};
 use anyhow::Result;
 use icu_segmenter::options::LineBreakOptions;
 use icu_segmenter::wrap::Fit;
@@ -36,10 +36,24 @@ pub struct Job {
 pub enum Action {
     /// It is cut into segments: by what, and how they are written.
     Cut(TextSegmenter, Style),
+    /// Where it may be split is written: by whose boundaries, and how many bytes each part has at least.
+    Split(TextSegmenter, usize),
     /// Its lines are wrapped.
     Wrap(Wrapper),
     /// Its lines are chosen paragraph by paragraph.
     Paragraphs(ParagraphAction),
+}
+
+impl Action {
+    /// What is written of texts that a segmenter cuts.
+    pub fn of(segmenter: TextSegmenter, written: Written) -> Action
+        ensures { IsActionOf segmenter written result }
+    {
+        match written {
+            Written::Segments(style) => Action::Cut(segmenter, style),
+            Written::Parts(least) => Action::Split(segmenter, least),
+        }
+    }
 }
 
 /// How paragraphs are set, with all that it takes.
@@ -129,9 +143,9 @@ fn action_of(alloc: Global, request: &Request<'_>, words: Vocabulary) -> Result<
     ensures { IfOk result (λ action. IsAskedAction request.now (script_words words.dictionaries) (option_map abbreviations_of words.abbreviations) words.patterns action) }
 {
     match request.action {
-        RequestedAction::Cut(kind, style, engine) => {
+        RequestedAction::Cut(kind, written, engine) => {
             let segmenter = segmenter_of(alloc, kind, engine, options_of(request), words)?;
-            Ok(Action::Cut(segmenter, style))
+            Ok(Action::of(segmenter, written))
         }
         RequestedAction::Wrap(width) => Ok(Action::Wrap(wrapper_by(alloc, width, request, words)?)),
         RequestedAction::Paragraphs(width, setting) => {

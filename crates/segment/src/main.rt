@@ -128,7 +128,7 @@ fn cut_by(
     rules: OwnRules,
     matches: &ArgMatches<'_>,
 ) -> ExitCode {
-    run_files(rt, job_by(rules, request.tokens, request.style), matches)
+    run_files(rt, job_by(rules, request.tokens, request.written), matches)
 }
 
 // Says why a command line can't be followed.

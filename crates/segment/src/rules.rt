@@ -5,7 +5,7 @@ ghost use Rattle.seg_notation.specs.Texts.{rules_in};
 ghost use Rattle.seg_rules.specs.Passed.{FindsPlaces};
 ghost use Rattle.segment.specs.Rules.{IsJobByRules, IsRulesRequest};
 
-use crate::command::style_of;
+use crate::command::{Written, written_of};
 use crate::job::{Action, Job};
 use crate::words::{text_of, without_mark};
 use anyhow::{Result, bail};
@@ -13,7 +13,6 @@ use clap::ArgMatches;
 use icu_segmenter::provider::{SegmenterStateMachine, Symbol};
 use seg_compile::compile::{CompileError, Witness};
 use seg_notation::{TextError, TextRules};
-use segment_output::output::Style;
 use segment_output::segmenter::TextSegmenter;
 use segment_text::preparation::Preparation;
 use std::alloc::{AllocError, Global};
@@ -25,8 +24,8 @@ use std::{fmt, fs};
 pub struct RulesRequest<'m> {
     /// The file that has the rules.
     pub path: &'m str,
-    /// How segments are written.
-    pub style: Style,
+    /// What is written of a text.
+    pub written: Written,
     /// Whether those segments are left out which end at a boundary of status 1.
     pub tokens: bool,
     /// Whether the machine is shown, and no text is cut.
@@ -53,14 +52,14 @@ impl OwnRules {
     }
 }
 
-/// What the arguments of rules ask for. The error is that no file of rules is named.
+/// What the arguments of rules ask for. The errors are that no file of rules is named, and parts of no bytes.
 pub fn rules_request_of<'m>(matches: &'m ArgMatches<'_>) -> Result<RulesRequest<'m>>
     ensures { IfOk result (IsRulesRequest (found_of matches.now)) }
 {
     match matches.get_str("rules") {
         Some(path) => Ok(RulesRequest {
             path,
-            style: style_of(matches),
+            written: written_of(matches)?,
             tokens: matches.get_flag("tokens"),
             shows_machine: matches.get_flag("show-machine"),
         }),
@@ -153,8 +152,8 @@ fn with_machine(alloc: Global, rules: TextRules) -> Result<Result<OwnRules, Stri
 }
 
 /// The job of rules: texts are cut where they break, and tokens alone are shown or all segments.
-pub fn job_by(rules: OwnRules, tokens: bool, style: Style) -> Job
-    ensures { IsJobByRules (rules_in rules.rules) tokens style result }
+pub fn job_by(rules: OwnRules, tokens: bool, written: Written) -> Job
+    ensures { IsJobByRules (rules_in rules.rules) tokens written result }
 {
     let OwnRules { rules: _, machine } = rules;
     Job {
@@ -162,7 +161,7 @@ pub fn job_by(rules: OwnRules, tokens: bool, style: Style) -> Job
             tabs: None,
             joins: false,
         },
-        action: Action::Cut(TextSegmenter::Ruled(machine, tokens), style),
+        action: Action::of(TextSegmenter::Ruled(machine, tokens), written),
         names_files: false,
     }
 }

@@ -11,6 +11,7 @@ ghost use Rattle.segment.specs.Job.{said_by, IsBegunBy, IsOutputOf, IsPrintedBy,
 
 use crate::job::{Action, Job, ParagraphAction};
 use segment_output::parts::{Printing, Splitting, print_parts};
+use segment_output::splits::{TextParts, print_splits};
 use segment_text::counts::write_count;
 use segment_text::fault::Fault;
 use segment_text::preparation::Preparation;
@@ -19,7 +20,7 @@ use std::alloc::Global;
 use std::io::{Read, Write};
 
 /// Does to what a reader has what a job says, and writes it: each segment on a line of its own, how many there are, with the numbers beside
-/// and the reader's name if it has one, or the wrapped lines. What is written doesn't depend on the engine. Where texts may be split behind their
+/// and the reader's name if it has one, where the text may be split, or the wrapped lines. What is written doesn't depend on the engine. Where texts may be split behind their
 /// line feeds, lines are written as they come, and paragraphs where their lines are joined. The errors are those of the reader, which is met
 /// before anything is written or after the lines or paragraphs that it gave, and of the writer.
 pub fn run<I: Read, O: Write>(
@@ -75,7 +76,8 @@ fn read_prepared<I: Read>(
     }
 }
 
-// Writes the segments of what a reader has, each on a line of its own, unless they are only counted, or its wrapped lines.
+// Writes the segments of what a reader has, each on a line of its own, unless they are only counted, or where it may be split, or its wrapped
+// lines.
 fn print_job<I: Read, O: Write>(
     alloc: Global,
     job: &Job,
@@ -92,6 +94,14 @@ fn print_job<I: Read, O: Write>(
     let preparation = job.preparation;
     let printing = match &job.action {
         Action::Cut(segmenter, style) => Printing::Segments(segmenter, *style, file),
+        Action::Split(segmenter, least) => {
+            let parts = TextParts {
+                segmenter,
+                least: *least,
+                file,
+            };
+            return print_splits(alloc, parts, input, out);
+        }
         Action::Wrap(wrapper) => Printing::Lines(wrapper),
         Action::Paragraphs(action) => {
             return print_paragraphs(alloc, action, preparation, input, out);

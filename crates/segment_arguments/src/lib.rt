@@ -152,6 +152,15 @@ const WRITTEN: &[Argument<'static>] = arguments! {
     "null" Flag: "Write segments as they are, each with a zero byte after it and no line feed", without &["offsets"];
 };
 
+// Where a text may be split, in place of what stands in it.
+const SPLIT: &[Argument<'static>] = arguments! {
+    "split" Number("BYTES"): "Write where parts of at least so many bytes begin and end, which may be cut apart, and no segment", without &["offsets", "raw", "null", "json", "count"];
+};
+
+const UNJOINED_SPLIT: &[Argument<'static>] = arguments! {
+    "split" Number("BYTES"): "Write where parts of at least so many bytes begin and end, which may be cut apart, and no segment", without &["offsets", "raw", "null", "json", "count", "join"];
+};
+
 const JSON: &[Argument<'static>] = arguments! {
     "json" Flag: "Write a JSON object for each segment: text, begin, end", without &["offsets", "raw", "null"];
 };
@@ -204,7 +213,7 @@ const DICTIONARIES: &[Argument<'static>] = arguments! {
 
 const RULED: &[Argument<'static>] = arguments! {
     "tokens" Flag: "Leave out segments that end where a rule with ! breaks";
-    "show-machine" Flag: "Write the machine of the rules, a line for each of its states, and cut nothing", without &["offsets", "raw", "null", "json", "count", "tokens", "file"];
+    "show-machine" Flag: "Write the machine of the rules, a line for each of its states, and cut nothing", without &["offsets", "raw", "null", "json", "count", "split", "tokens", "file"];
 };
 
 // How lines are wrapped.
@@ -226,21 +235,37 @@ const GRAPHEME: Kind<'static> = Kind {
     name: "grapheme",
     about: "Writes extended grapheme clusters",
     operand: Operand::Nothing,
-    arguments: &[ENGINE, WRITTEN, JSON, COUNTED],
+    arguments: &[ENGINE, WRITTEN, JSON, COUNTED, SPLIT],
 };
 
 const WORD: Kind<'static> = Kind {
     name: "word",
     about: "Writes words, and what stands between them",
     operand: Operand::Nothing,
-    arguments: &[WORDS, WRITTEN, WORD_JSON, COUNTED, ENGINE, DICTIONARIES],
+    arguments: &[
+        WORDS,
+        WRITTEN,
+        WORD_JSON,
+        COUNTED,
+        SPLIT,
+        ENGINE,
+        DICTIONARIES,
+    ],
 };
 
 const SENTENCE: Kind<'static> = Kind {
     name: "sentence",
     about: "Writes sentences",
     operand: Operand::Nothing,
-    arguments: &[ENGINE, JOIN, WRITTEN, JSON, COUNTED, ABBREVIATIONS],
+    arguments: &[
+        ENGINE,
+        JOIN,
+        WRITTEN,
+        JSON,
+        COUNTED,
+        UNJOINED_SPLIT,
+        ABBREVIATIONS,
+    ],
 };
 
 const LINE: Kind<'static> = Kind {
@@ -252,6 +277,7 @@ const LINE: Kind<'static> = Kind {
         WRITTEN,
         LINE_JSON,
         COUNTED,
+        SPLIT,
         LINE_OPTIONS,
         DICTIONARIES,
     ],
@@ -261,7 +287,7 @@ const RULES: Kind<'static> = Kind {
     name: "rules",
     about: "Writes what stands between places where rules of your own break",
     operand: Operand::Rules,
-    arguments: &[RULED, WRITTEN, RULES_JSON, COUNTED],
+    arguments: &[RULED, WRITTEN, RULES_JSON, COUNTED, SPLIT],
 };
 
 const WRAP: Kind<'static> = Kind {

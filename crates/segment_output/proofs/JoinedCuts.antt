@@ -22,6 +22,22 @@ pub rises-order : (from end : ℕ) (boundaries : List Boundary) → RisesTo from
 rises-order from end [] rises = omega (arith, rises)
 rises-order from end (found ∷ boundaries) rises = omega (arith, rises.0, rises-order found.offset end boundaries rises.1)
 
+rises-append : (from mid end : ℕ) (first second : List Boundary) → RisesTo from first mid → RisesTo mid second end → RisesTo from (first ++ second) end
+rises-append from mid end [] second rises others = subst (λ (place : ℕ). RisesTo place second end) (sym rises) others
+rises-append from mid end (found ∷ first) second rises others = (rises.0, rises-append found.offset mid end first second rises.1 others)
+
+rises-shift : (n from end : ℕ) (boundaries : List Boundary) → RisesTo from boundaries end → RisesTo (n + from) (shift_all n boundaries) (n + end)
+rises-shift n from end [] rises = ap (λ (place : ℕ). n + place) rises
+rises-shift n from end (found ∷ boundaries) rises = (omega (arith, rises.0), rises-shift n found.offset end boundaries rises.1)
+
+pub cover-joined : (n m : ℕ) (first second : List Boundary) → IsCover 0 n first → IsCover 0 m second
+    → IsCover 0 (n + m) (first ++ shift_all n (drop 1 second))
+cover-joined n m [] second covers cover = absurd covers
+cover-joined n m (x ∷ first) [] covers cover = absurd cover
+cover-joined n m (x ∷ first) (y ∷ second) covers cover =
+    let none : n + 0 ≡ n = omega arith in
+    (covers.0, rises-append 0 n (n + m) first (shift_all n second) covers.1 (subst (λ (place : ℕ). RisesTo place (shift_all n second) (n + m)) none (rises-shift n 0 m second cover.1)))
+
 -- ---- boundaries up to a place
 
 none-up-to : (from end place : ℕ) (boundaries : List Boundary) → RisesTo from boundaries end → place ≤ from → up_to place boundaries ≡ []

@@ -10,6 +10,7 @@ pub mod Printed
 pub mod Segments
 pub mod ShownLines
 pub mod ShownWide
+pub mod SplitParts
 pub mod SplitText
 pub mod Stretches
 pub mod WrappedParts

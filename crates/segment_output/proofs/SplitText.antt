@@ -208,7 +208,7 @@ whole-printed segmenter style file before text old new r printed =
 -- ---- parts, one after another
 
 -- how large two texts are, one behind the other
-sizes-append : (one other : List ℕ) → size_of (one ++ other) ≡ both_sizes (size_of one) (size_of other)
+pub sizes-append : (one other : List ℕ) → size_of (one ++ other) ≡ both_sizes (size_of one) (size_of other)
 sizes-append one other =
     ap₂ (λ (lines bytes : ℕ). let size : Size = record { lines = lines; bytes = bytes } in size)
     (ap length (filter-append (λ byte. byte == 0x0A) one other) ∙ length-append (filter (λ byte. byte == 0x0A) one) (filter (λ byte. byte == 0x0A) other)) (length-append one other)

@@ -5,6 +5,7 @@ pub mod Objects
 pub mod Output
 pub mod Parts
 pub mod TextSegmenter
+pub mod Splits
 pub mod Stretch
 pub mod Wrapped
 pub mod Wrapper

@@ -11,6 +11,7 @@ pub mod output;
 mod page;
 pub mod parts;
 pub mod segmenter;
+pub mod splits;
 mod stretch;
 pub mod vocabulary;
 pub mod wrapper;

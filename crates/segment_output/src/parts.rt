@@ -21,13 +21,13 @@ use std::io::{ErrorKind, Read, Write};
 use std::{io, mem};
 
 // So many bytes are read at once, as many as a pipe holds.
-const BLOCK_LEN: usize = 65536;
+pub(crate) const BLOCK_LEN: usize = 65536;
 
 // A line, or paragraph, of so many bytes is split at a certain place: shorter ones are faster as they are.
 const LONG_LEN: usize = 1 << 20;
 
 // So many bytes that were held before are looked at again when more have come, for a certain place at their seam.
-const OVERLAP_LEN: usize = 64;
+pub(crate) const OVERLAP_LEN: usize = 64;
 
 /// What is written of a text.
 #[derive(Clone, Copy)]

@@ -1,5 +1,5 @@
 //! Segmenters by Unicode's data.
-ghost use Rattle.std.specs.Prelude.{◌≡◌, ◌≤◌, length, IfOk, IfSome, IsTrue};
+ghost use Rattle.std.specs.Prelude.{◌≡◌, ◌≤◌, ◌++◌, ℕ, List, length, IfOk, IfSome, IsTrue};
 ghost use Rattle.std.specs.Option.{option_map};
 ghost use Rattle.std.specs.Io.KnownBytes.{Appends};
 ghost use Rattle.segment_output.specs.Output.{lines_at, look_of, segments, shown_boundaries};
@@ -14,6 +14,7 @@ ghost use Rattle.icu_segmenter.specs.ScriptWords.{script_words};
 ghost use Rattle.icu_segmenter.specs.Suppressing.{suppressing_finder};
 ghost use Rattle.icu_segmenter.specs.TextSegments.{marked};
 ghost use Rattle.icu_segmenter.specs.Words.{owned_word_rules};
+ghost use Rattle.segment_output.specs.Splits.{IsSplit};
 ghost use Rattle.segment_output.specs.TextSegmenter.{anywhere_by, boundaries_by, cluster_rules_by, line_rules_by, line_rules_of, segments_in, sentence_rules_by, suppressed_finder, word_rules_by, IsAskedOf};
 ghost use Rattle.segment_output.specs.declared.marks.Mark.TheVariants.{Rule};
 
@@ -32,6 +33,7 @@ use icu_segmenter::{
     WordSegmenter,
 };
 use icu_segmenter_data::classic;
+use segment_text::blocks::whole_len;
 use std::alloc::Global;
 use std::io;
 use std::io::Write;
@@ -228,6 +230,64 @@ impl TextSegmenter {
             TextSegmenter::Suppressing(_, _) => None,
             TextSegmenter::Lines(lines) => last_split(&lines.as_borrowed(), bytes, least),
             TextSegmenter::Ruled(machine, _) => last_split(&anywhere(machine), bytes, least),
+        }
+    }
+
+    /// A place in the beginning of a text where it may be split, whatever comes behind these bytes: the last certain one or, where none is known
+    /// and texts may be cut behind line feeds, that behind the last line feed. What stands from `least` on is looked at. Takes no memory.
+    pub fn split_place(&self, bytes: &[u8], least: usize) -> Option<usize>
+        ensures within { IfSome result (λ place. place ≤ length bytes.now) }
+        ensures splits { IfSome result (λ place. (more : List ℕ) → IsSplit (boundaries_by self.now) (bytes.now ++ more) place) }
+    {
+        if let Some(place) = self.last_split(bytes, least) {
+            self.cover(bytes);
+            return Some(place);
+        }
+        if self.has_parts() {
+            self.line_place(bytes, least)
+        } else {
+            None
+        }
+    }
+
+    // The place behind the last line feed that stands from `least` on.
+    fn line_place(&self, bytes: &[u8], least: usize) -> Option<usize>
+        requires { PartsBehind (boundaries_by self.now) line_feed }
+        ensures within { IfSome result (λ place. place ≤ length bytes.now) }
+        ensures splits { IfSome result (λ place. (more : List ℕ) → IsSplit (boundaries_by self.now) (bytes.now ++ more) place) }
+    {
+        let (front, rest) = bytes.split_at(least.min(bytes.len()));
+        let Some(len) = whole_len(false, rest) else {
+            return None;
+        };
+        let place = front.len() + len;
+        self.cover(&bytes[..place]);
+        Some(place)
+    }
+
+    // The first boundary of some bytes is at their start, and the last at their end. Takes no memory.
+    fn cover(&self, bytes: &[u8])
+        ensures { IsCover 0 (length bytes.now) (boundaries_by self.now bytes.now) }
+    {
+        match self {
+            TextSegmenter::Clusters(clusters) => {
+                drop(clusters.as_borrowed().segment_utf8(bytes));
+            }
+            TextSegmenter::Words(words, _) => {
+                drop(words.as_borrowed().segment_utf8(bytes));
+            }
+            TextSegmenter::Sentences(sentences) => {
+                drop(sentences.as_borrowed().segment_utf8(bytes));
+            }
+            TextSegmenter::Suppressing(sentences, abbreviations) => {
+                drop(suppressing(sentences, abbreviations).segment_utf8(bytes));
+            }
+            TextSegmenter::Lines(lines) => {
+                drop(lines.as_borrowed().segment_utf8(bytes));
+            }
+            TextSegmenter::Ruled(machine, _) => {
+                drop(anywhere(machine).segment_utf8(bytes));
+            }
         }
     }
 }

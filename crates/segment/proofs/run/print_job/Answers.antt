@@ -1,7 +1,7 @@
 -- A text that has parts is written part by part, and any other is read first.
 use Rattle.std.proofs.Common.{refl, option_map}
 use Rattle.segment.specs.Job.{IsPrintingOf}
-use Rattle.segment.proofs.Counted.{all-paragraphs, all-split, begun-split, begun-whole}
+use Rattle.segment.proofs.Counted.{all-paragraphs, all-parts, all-split, begun-split, begun-whole}
 use Rattle.segment.proofs.run.print_job.Goals.{in-Cut, in-Wrap}
 use Rattle.segment.proofs.run.print_job.Goals as goal
 
@@ -34,6 +34,14 @@ returns-clause-written g c =
 
 pub returns-clause-begun : goal.returns-clause-begun
 returns-clause-begun g c = begun-whole _ _ c.print_whole.result c.print_whole.ensures.unwritten
+
+pub returns-in-Split-clause-written : goal.returns-in-Split-clause-written
+returns-in-Split-clause-written g c =
+    all-parts (option_map (λ name. name.now) c.args.file) c.args.job.now _ _ (g.I.Read.remaining c.args.input.now) _ _ c.print_splits.result c.in-Split.is
+    c.print_splits.ensures.written
+
+pub returns-in-Split-clause-begun : goal.returns-in-Split-clause-begun
+returns-in-Split-clause-begun g c = begun-whole _ _ c.print_splits.result c.print_splits.ensures.unwritten
 
 pub returns-in-Paragraphs-clause-written : goal.returns-in-Paragraphs-clause-written
 returns-in-Paragraphs-clause-written g c =

@@ -1,5 +1,4 @@
 -- The first of them up to the limit, or none.
-use Rattle.std.proofs.Common.{refl}
 use Rattle.seg_text.proofs.Cursors.{fewer-left}
 use Rattle.segment_output.proofs.MarkedPlaces.{marks_up_to, next-marked, none-marked, passes-over}
 use Rattle.segment_output.proofs.marks.MarkedIterator.next.Goals as goal
