@@ -159,16 +159,16 @@ least_of (Segments style) = None
 least_of (Parts least) = Some least
 
 -- segments have the style that is named, and parts a byte or more
-abbrev pub IsWell : Found → Written → Type 0
-IsWell found (Segments style) = IsStyle found style
-IsWell found (Parts least) = 0 < least
+abbrev pub IsStyleOrSize : Found → Written → Type 0
+IsStyleOrSize found (Segments style) = IsStyle found style
+IsStyleOrSize found (Parts least) = 0 < least
 
 -- what is written is what is named: parts of as many bytes as are said, or segments
 abbrev pub IsWritten : Found → Written → Type 0
 IsWritten found written =
     (one_text found (codes "split") ≡ None → least_of written ≡ None)
     × ((digits : List ℕ) → one_text found (codes "split") ≡ Some digits → IsNumeral 10 digits → digits_value 10 digits < 2 ^ 64 → least_of written ≡ Some (digits_value 10 digits))
-    × IsWell found written
+    × IsStyleOrSize found written
 
 -- lines are chosen as it is named: balanced, or each filled as far as it goes
 abbrev pub IsChosen : Found → Fit → Type 0

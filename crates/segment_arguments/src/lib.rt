@@ -157,10 +157,6 @@ const SPLIT: &[Argument<'static>] = arguments! {
     "split" Number("BYTES"): "Write where parts of at least so many bytes begin and end, which may be cut apart, and no segment", without &["offsets", "raw", "null", "json", "count"];
 };
 
-const UNJOINED_SPLIT: &[Argument<'static>] = arguments! {
-    "split" Number("BYTES"): "Write where parts of at least so many bytes begin and end, which may be cut apart, and no segment", without &["offsets", "raw", "null", "json", "count", "join"];
-};
-
 const JSON: &[Argument<'static>] = arguments! {
     "json" Flag: "Write a JSON object for each segment: text, begin, end", without &["offsets", "raw", "null"];
 };
@@ -189,7 +185,7 @@ const WORDS: &[Argument<'static>] = arguments! {
 };
 
 const JOIN: &[Argument<'static>] = arguments! {
-    "join" Flag: "Join the lines between blank lines first, each two by a space";
+    "join" Flag: "Join the lines between blank lines first, each two by a space", without &["split"];
 };
 
 // Abbreviations go with the default engine: only its texts are split after line feeds.
@@ -257,15 +253,7 @@ const SENTENCE: Kind<'static> = Kind {
     name: "sentence",
     about: "Writes sentences",
     operand: Operand::Nothing,
-    arguments: &[
-        ENGINE,
-        JOIN,
-        WRITTEN,
-        JSON,
-        COUNTED,
-        UNJOINED_SPLIT,
-        ABBREVIATIONS,
-    ],
+    arguments: &[ENGINE, JOIN, WRITTEN, JSON, COUNTED, SPLIT, ABBREVIATIONS],
 };
 
 const LINE: Kind<'static> = Kind {

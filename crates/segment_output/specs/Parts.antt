@@ -103,8 +103,8 @@ IsAdded splitting block before after IsUnwritten old new =
     ⊎ IsFrontWritten splitting (before.held.items ++ block) before after old new)
 
 -- of a text that was read in part, something is written of its first bytes, and nothing of the rest that was read: whatever comes, all that is
--- written begins so, and then comes what is written of the rest and of what comes, as of the end of a text. The first bytes are whole lines or
--- paragraphs, but where a text may be split at certain places too
+-- written begins so, and goes on with what is written of the rest and of what comes, which stand behind the first bytes. These are whole lines
+-- or paragraphs, but where a text may be split at certain places too
 pub record IsBegun (splitting : Splitting) (from to old new : Option (List ℕ)) : Type 0 where
   pub parts : List ℕ
   pub rest : List ℕ

@@ -105,8 +105,8 @@ impl<'p> Printing<'p> {
 
 /// Writes what is written of a text that a reader has, split behind its line feeds or, where lines are joined, behind its blank lines: each time
 /// that the reader gives some bytes, the lines or paragraphs that end with them. Where they end none, a megabyte is held, and segments of the text
-/// as it stands are written, those up to the last certain place. It takes memory for the longest part. The errors are those of the reader, where what was split
-/// off of what it gave is written and nothing of the rest, and of the writer.
+/// as it stands are written, those up to the last certain place. It takes memory for the longest part. The errors are those of the reader,
+/// where what was split off of what it gave is written and nothing of the rest, and of the writer.
 pub fn print_parts<I: Read, O: Write>(
     alloc: Global,
     splitting: Splitting<'_>,
