@@ -71,29 +71,60 @@ static void *window_of(const void *again, size_t len) {
     return all;
 }
 
-/* Moves a cursor from the middle of the window to later boundaries, and back. */
-static void try_moves(uint32_t kind, const char *again) {
-    const size_t size = strlen(again), len = UNREADABLE + WINDOW + UNREADABLE, middle = UNREADABLE + WINDOW / 2;
-    uint16_t *units = block(size * sizeof *units);
-    for (size_t at = 0; at < size; at++) units[at] = (uint8_t)again[at];
-    const uint8_t *text = window_of(again, size);
-    const uint16_t *wide = window_of(units, size * sizeof *units);
-    yengatomu_slot slot = {0};
+/* A text of ASCII and of sequences of three bytes in UTF-16: writes its units, and returns how many. */
+static size_t widened(const char *text, uint16_t *units) {
+    size_t count = 0;
+    for (const uint8_t *at = (const uint8_t *)text; *at; at += *at < 0x80 ? 1 : 3)
+        units[count++] = (uint16_t)(*at < 0x80 ? *at : (*at & 0xF) << 12 | (at[1] & 0x3F) << 6 | (at[2] & 0x3F));
+    return count;
+}
+
+/* Moves a cursor from the middle of the window to later boundaries, and back, in UTF-8 and in UTF-16. Closes the slot. */
+static void try_moves(yengatomu_slot *slot, const char *again) {
     size_t places[MOVES], units_at[MOVES];
-    CHECK(yengatomu_open(&slot, kind, 0, 0, false) == YENGATOMU_OK);
+    uint16_t *units = block(strlen(again) * sizeof *units);
+    const size_t count = widened(again, units);
+    const size_t len = UNREADABLE + WINDOW + UNREADABLE, middle = UNREADABLE + WINDOW / 2;
+    const uint8_t *text = window_of(again, strlen(again));
+    const uint16_t *wide = window_of(units, count * sizeof *units);
     for (size_t i = 0; i < MOVES; i++) {
-        places[i] = yengatomu_next(&slot, text, len, i ? places[i - 1] : middle);
-        units_at[i] = yengatomu_next_utf16(&slot, wide, len / 2, i ? units_at[i - 1] : middle / 2);
+        places[i] = yengatomu_next(slot, text, len, i ? places[i - 1] : middle);
+        units_at[i] = yengatomu_next_utf16(slot, wide, len / 2, i ? units_at[i - 1] : middle / 2);
         CHECK(places[i] > middle && units_at[i] > middle / 2);
     }
     for (size_t i = MOVES - 1; i > 0; i--) {
-        CHECK(yengatomu_previous(&slot, text, len, places[i]) == places[i - 1]);
-        CHECK(yengatomu_previous_utf16(&slot, wide, len / 2, units_at[i]) == units_at[i - 1]);
+        CHECK(yengatomu_previous(slot, text, len, places[i]) == places[i - 1]);
+        CHECK(yengatomu_previous_utf16(slot, wide, len / 2, units_at[i]) == units_at[i - 1]);
     }
-    yengatomu_close(&slot);
+    yengatomu_close(slot);
     free(units);
     munmap((void *)text, len);
     munmap((void *)wide, len);
+}
+
+/* .. of each kind; of words and lines with a list of Thai words too, of lines that may be broken anywhere, and of sentences with an abbreviation. */
+static void try_all_moves(const char *mixed) {
+    static const char prose[] = "Mr. Smith can't pay 3.14. He left! ", list[] = "{\"a\": [1, 2.5], \"b c\": null}, ";
+    const yengatomu_word abbreviation = {(const uint8_t *)"Mr.", 3};
+    for (uint32_t kind = YENGATOMU_CLUSTERS; kind <= YENGATOMU_LINES; kind++) {
+        yengatomu_slot slot = {0};
+        CHECK(yengatomu_open(&slot, kind, 0, 0, false) == YENGATOMU_OK);
+        try_moves(&slot, prose);
+        /* (in which no sentence ends) */
+        if (kind == YENGATOMU_SENTENCES) continue;
+        CHECK(yengatomu_open(&slot, kind, 0, 0, false) == YENGATOMU_OK);
+        try_moves(&slot, list);
+    }
+    for (uint32_t kind = YENGATOMU_WORDS; kind <= YENGATOMU_LINES; kind += YENGATOMU_LINES - YENGATOMU_WORDS) {
+        yengatomu_slot slot = opened(kind);
+        try_moves(&slot, mixed);
+    }
+    yengatomu_slot anywhere = {0}, sentences = {0};
+    CHECK(yengatomu_open(&anywhere, YENGATOMU_LINES, YENGATOMU_ANYWHERE, 0, false) == YENGATOMU_OK);
+    try_moves(&anywhere, list);
+    CHECK(yengatomu_open(&sentences, YENGATOMU_SENTENCES, 0, 0, false) == YENGATOMU_OK);
+    CHECK(yengatomu_load_abbreviations(&sentences, &abbreviation, 1) == YENGATOMU_OK);
+    try_moves(&sentences, prose);
 }
 
 int main(void) {
@@ -113,10 +144,6 @@ int main(void) {
         if (kind == YENGATOMU_LINES) try_lines(&slot, start, 20, AHEAD + 4 * strlen(mixed));
         yengatomu_close(&slot);
     }
-    for (uint32_t kind = YENGATOMU_CLUSTERS; kind <= YENGATOMU_LINES; kind++) {
-        try_moves(kind, "Mr. Smith can't pay 3.14. He left! ");
-        /* (in which no sentence ends) */
-        if (kind != YENGATOMU_SENTENCES) try_moves(kind, "{\"a\": [1, 2.5], \"b c\": null}, ");
-    }
+    try_all_moves(mixed);
     return failed != 0;
 }

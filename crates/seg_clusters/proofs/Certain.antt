@@ -1,6 +1,6 @@
 -- At a certain place each list has a boundary: no scan passes it, and each segment takes some code points.
 use Rattle.std.proofs.Common.{◌≡◌, ◌≢◌, ℕ, zero, suc, ◌+◌, ◌-◌, ◌<◌, ◌≤◌, List, [], ◌∷◌, ◌++◌, length, drop, replicate, slice_get, Contains, refl, sym, ap, ◌∙◌, subst, inl, inr, arith, append_assoc, length-append}
-use Rattle.std.specs.Prelude.{Option, Some, None, IsSome, IfSome, MatchOption}
+use Rattle.std.specs.Prelude.{Option, Some, None, IsSome, MatchOption}
 use Rattle.std.specs.Option.{option_map, option_map_or}
 use Rattle.std.proofs.lemmas.Bool.{cases_eq}
 use Rattle.std.proofs.lemmas.List.{drop-append-le, length-drop, length-map, map-append}
@@ -19,13 +19,11 @@ use Rattle.seg_machine.proofs.Law.{pick-words}
 use Rattle.seg_machine.proofs.Picks.{pick-bounds}
 use Rattle.seg_machine.proofs.Segmentations.{machine-going, machine-picks, symbols_of-text}
 use Rattle.seg_machine.proofs.Transitions.{leads-to}
-use Rattle.seg_clusters.specs.Certain.{AlwaysBreaks, AreCertain, GoesOnBy, IsCertain, NeverBreaks, StopsBetween}
+use Rattle.seg_machine.specs.Certain.{GoesOnBy, IsCertain, NeverBreaks, StopsBetween}
+use Rattle.seg_machine.proofs.Passes.{if-some, stops-or-not}
+use Rattle.seg_clusters.specs.Certain.{AlwaysBreaks, AreCertain}
 use Rattle.seg_clusters.specs.Rules.{Rules, boundaries_by}
 use Rattle.seg_clusters.specs.Rules.Rules.{ByMachine}
-
--- what holds of an option holds of what it is
-pub if-some : {A : Type 0} (found : Option A) (holds : A → Type 0) (x : A) → IfSome found holds → found ≡ Some x → holds x
-if-some {A} found holds x if is = subst (λ (found : Option A). IfSome found holds) is if
 
 -- ---- scans
 
@@ -284,13 +282,13 @@ module _ (m : Machine) (checked : IsChecked m) (before one other : ℕ)
         | inr sooner ↦
             elim (cases_eq n (suc (length earlier))) [
               | inl right_before ↦
-                  elim certain.1 [
+                  elim (stops-or-not m 0 (symbol_and_script m one).0 (symbol_and_script m other).0) [
                     | inl stops ↦
                         let left : drop n xs ≡ one ∷ other ∷ later = ap (λ (n : ℕ). drop n xs) right_before ∙ left-one earlier in
                         let (k, status, is) = shifted n (later_of (one ∷ other ∷ later)) 1 (behind-one stops later) in
                         let place : n + 1 ≡ length earlier + 2 = omega (arith, right_before) in
                         rw (b.are, left) (suc k, status, is ∙ ap (λ (offset : ℕ). Some (boundary offset status)) place)
-                    | inr never ↦ absurd (pick-between m checked before one other certain never earlier later b.p b.picks right_before)
+                    | inr goes ↦ absurd (pick-between m checked before one other certain (certain.1 goes) earlier later b.p b.picks right_before)
                   ]
               | inr earlier_still ↦
                   let fewer : length (drop n earlier) ≡ length earlier - n = length-drop n earlier in

@@ -14,10 +14,12 @@ use Rattle.seg_machine.specs.MachineFaults.{IsChecked}
 use Rattle.seg_machine.specs.Pick.{machine_boundaries, machine_stretch, pick, picked_step}
 use Rattle.seg_machine.proofs.Segmentations.{machine-going, machine-picks}
 use Rattle.seg_machine.proofs.Transitions.{leads-to}
-use Rattle.seg_clusters.specs.Certain.{AreCertain, IsCertain, SplitsBetween, StopsBetween, without_last}
+use Rattle.seg_machine.specs.Certain.{IsCertain, StopsBetween}
+use Rattle.seg_machine.proofs.Passes.{if-some, stops-or-not}
+use Rattle.seg_clusters.specs.Certain.{AreCertain, SplitsBetween, without_last}
 use Rattle.seg_clusters.specs.Rules.{Rules, boundaries_by}
 use Rattle.seg_clusters.specs.Rules.Rules.{ByMachine}
-use Rattle.seg_clusters.proofs.Certain.{begins, begins-at, if-some, parts, pick-anew, pick-between, pick-short, pick-within, run-short, stops-short}
+use Rattle.seg_clusters.proofs.Certain.{begins, begins-at, parts, pick-anew, pick-between, pick-short, pick-within, run-short, stops-short}
 
 -- ---- scans
 
@@ -108,7 +110,7 @@ none-left zero x some = absurd (omega arith)
 none-left (suc zero) x some = refl
 none-left (suc (suc n)) x some = refl
 
-last-off : {X : Type 0} (xs : List X) (x : X) → without_last (xs ++ x ∷ []) ≡ xs
+pub last-off : {X : Type 0} (xs : List X) (x : X) → without_last (xs ++ x ∷ []) ≡ xs
 last-off xs x =
     let count : length (xs ++ x ∷ []) - 1 ≡ length xs = omega (arith, length-append xs (x ∷ [])) in
     ap (λ (n : ℕ). take n (xs ++ x ∷ [])) count ∙ take_at xs (x ∷ []) (length xs) refl
@@ -224,7 +226,7 @@ module _ (m : Machine) (checked : IsChecked m) (before one other : ℕ)
         | inr sooner ↦
             elim (cases_eq n (suc (length earlier))) [
               | inl right_before ↦
-                  elim certain.1 [
+                  elim (stops-or-not m 0 (symbol_and_script m one).0 (symbol_and_script m other).0) [
                     | inl stops ↦
                         let left : drop n whole ≡ one ∷ other ∷ later = ap (λ (n : ℕ). drop n whole) right_before ∙ behind-two earlier later in
                         let other_left : drop n alone ≡ one ∷ other ∷ [] = ap (λ (n : ℕ). drop n alone) right_before ∙ behind-two earlier [] in
@@ -233,7 +235,7 @@ module _ (m : Machine) (checked : IsChecked m) (before one other : ℕ)
                         (splits-behind m b.p whole alone (one ∷ other ∷ later) (one ∷ other ∷ []) (other ∷ later) 1
                         (b.are ∙ ap (λ (xs : List ℕ). b.p ∷ shift_all n (later_of m checked xs)) left)
                         (others ∙ ap (λ (xs : List ℕ). b.p ∷ shift_all n (later_of m checked xs)) other_left) (splits-anew stops later))
-                    | inr never ↦ absurd (pick-between m checked before one other certain never earlier later b.p b.picks right_before)
+                    | inr goes ↦ absurd (pick-between m checked before one other certain (certain.1 goes) earlier later b.p b.picks right_before)
                   ]
               | inr earlier_still ↦
                   let fewer : length (drop n earlier) ≡ length earlier - n = length-drop n earlier in

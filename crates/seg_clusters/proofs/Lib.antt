@@ -5,6 +5,7 @@ pub mod LastStates
 pub mod ResetScans
 pub mod Certain
 pub mod CertainParts
+pub mod Begins
 pub mod SplitItems
 pub mod Encoded
 pub mod SplitTexts

@@ -23,63 +23,63 @@ use Rattle.seg_clusters.proofs.SpanStretches.{InSpan, span-inside, span-some, st
 
 -- how many pass a test of two lists, joined
 
-passes-all : (passes : ℕ → Bool) (xs ys : List ℕ) → prefix_len passes xs ≡ length xs → prefix_len passes (xs ++ ys) ≡ length xs + prefix_len passes ys
+pub passes-all : (passes : ℕ → Bool) (xs ys : List ℕ) → prefix_len passes xs ≡ length xs → prefix_len passes (xs ++ ys) ≡ length xs + prefix_len passes ys
 passes-all passes [] ys all = omega arith
 passes-all passes (x ∷ xs) ys all =
     cond_both (passes x) (1 + prefix_len passes xs) 0 (λ n. n ≡ suc (length xs) → prefix_len passes ((x ∷ xs) ++ ys) ≡ suc (length xs) + prefix_len passes ys)
     (λ here is. rw here (omega (arith, is, passes-all passes xs ys (omega (arith, is))))) (λ here is. absurd (omega (arith, is))) all
 
-passes-some : (passes : ℕ → Bool) (xs ys : List ℕ) → prefix_len passes xs < length xs → prefix_len passes (xs ++ ys) ≡ prefix_len passes xs
+pub passes-some : (passes : ℕ → Bool) (xs ys : List ℕ) → prefix_len passes xs < length xs → prefix_len passes (xs ++ ys) ≡ prefix_len passes xs
 passes-some passes [] ys some = absurd (omega arith)
 passes-some passes (x ∷ xs) ys some =
     cond_both (passes x) (1 + prefix_len passes xs) 0 (λ n. n < suc (length xs) → prefix_len passes ((x ∷ xs) ++ ys) ≡ n)
     (λ here less. rw here (omega (arith, less, passes-some passes xs ys (omega (arith, less))))) (λ here less. rw here refl) some
 
-passes-last : (passes : ℕ → Bool) (xs : List ℕ) (c : ℕ) → prefix_len passes (xs ++ c ∷ []) ≡ length (xs ++ c ∷ []) → passes c ≡ true
+pub passes-last : (passes : ℕ → Bool) (xs : List ℕ) (c : ℕ) → prefix_len passes (xs ++ c ∷ []) ≡ length (xs ++ c ∷ []) → passes c ≡ true
 passes-last passes [] c all =
     cond_both (passes c) (1 + 0) 0 (λ n. n ≡ 1 → passes c ≡ true) (λ here is. here) (λ here is. absurd (omega (arith, is))) all
 passes-last passes (x ∷ xs) c all =
     cond_both (passes x) (1 + prefix_len passes (xs ++ c ∷ [])) 0 (λ n. n ≡ suc (length (xs ++ c ∷ [])) → passes c ≡ true)
     (λ here is. passes-last passes xs c (omega (arith, is))) (λ here is. absurd (omega (arith, is))) all
 
-take-past : (xs ys : List ℕ) (n : ℕ) → take (length xs + n) (xs ++ ys) ≡ xs ++ take n ys
+pub take-past : (xs ys : List ℕ) (n : ℕ) → take (length xs + n) (xs ++ ys) ≡ xs ++ take n ys
 take-past [] ys n = let same : 0 + n ≡ n = omega arith in ap (λ k. take k ys) same
 take-past (x ∷ xs) ys n =
     let same : suc (length xs) + n ≡ suc (length xs + n) = omega arith in
     ap (λ k. take k (x ∷ (xs ++ ys))) same ∙ ap (λ rest. x ∷ rest) (take-past xs ys n)
 
-drop-past : (xs ys : List ℕ) (n : ℕ) → drop (length xs + n) (xs ++ ys) ≡ drop n ys
+pub drop-past : (xs ys : List ℕ) (n : ℕ) → drop (length xs + n) (xs ++ ys) ≡ drop n ys
 drop-past [] ys n = let same : 0 + n ≡ n = omega arith in ap (λ k. drop k ys) same
 drop-past (x ∷ xs) ys n =
     let same : suc (length xs) + n ≡ suc (length xs + n) = omega arith in
     ap (λ k. drop k (x ∷ (xs ++ ys))) same ∙ drop-past xs ys n
 
-take-within : (xs ys : List ℕ) (n : ℕ) → n ≤ length xs → take n (xs ++ ys) ≡ take n xs
+pub take-within : (xs ys : List ℕ) (n : ℕ) → n ≤ length xs → take n (xs ++ ys) ≡ take n xs
 take-within xs ys zero few = refl
 take-within [] ys (suc n) few = absurd (omega arith)
 take-within (x ∷ xs) ys (suc n) few = ap (λ rest. x ∷ rest) (take-within xs ys n (omega arith))
 
 module _ (m : Machine) (words : ScriptWords) (inner : InSpan) (nothing : inner None [] ≡ []) where
-  abbrev first : List ℕ → Stretch
+  abbrev pub first : List ℕ → Stretch
   first = stretch_with m words inner
 
-  abbrev later : List ℕ → List Boundary
+  abbrev pub later : List ℕ → List Boundary
   later = later_boundaries first
 
-  abbrev script : ℕ → ComplexScript
+  abbrev pub script : ℕ → ComplexScript
   script = worded_script m words
 
   -- how far the piece between runs goes that the list begins with, if it does
-  abbrev piece : List ℕ → ℕ
+  abbrev pub piece : List ℕ → ℕ
   piece xs = prefix_len (has_worded_script m words NoScript) xs
 
   -- what is found of a list, by its first span
-  next : (x : ℕ) (xs : List ℕ) → let n = span_length m words (x ∷ xs) in
+  pub next : (x : ℕ) (xs : List ℕ) → let n = span_length m words (x ∷ xs) in
       later (x ∷ xs) ≡ inner (words_in words (script x)) (take n (x ∷ xs)) ++ shift_all n (later (drop n (x ∷ xs)))
   next x xs = later-next first (stretch-going m words inner) x xs
 
   -- what is found of a list is what is found of the piece that it begins with, and of what is left
-  piece-first : (ys : List ℕ) → later ys ≡ inner None (take (piece ys) ys) ++ shift_all (piece ys) (later (drop (piece ys) ys))
+  pub piece-first : (ys : List ℕ) → later ys ≡ inner None (take (piece ys) ys) ++ shift_all (piece ys) (later (drop (piece ys) ys))
   piece-first [] = later-nil first ∙ sym (ap₂ (λ (some others : List Boundary). some ++ shift_all 0 others) nothing (later-nil first))
   piece-first (y ∷ ys) = on (has_worded_script m words NoScript y) refl
     where
@@ -96,11 +96,11 @@ module _ (m : Machine) (words : ScriptWords) (inner : InSpan) (nothing : inner N
           ∙ ap (λ (some : List Boundary). some ++ shift_all 0 (later (y ∷ ys))) nothing ∙ shifted-none (later (y ∷ ys)))
 
   -- may a list be split here
-  abbrev AreSplit : List ℕ → List ℕ → Type 0
+  abbrev pub AreSplit : List ℕ → List ℕ → Type 0
   AreSplit xs ys = later (xs ++ ys) ≡ later xs ++ shift_all (length xs) (later ys)
 
   -- the first list is one piece between runs
-  one-piece : (x : ℕ) (xs ys : List ℕ) → script x ≡ NoScript → span_length m words (x ∷ xs) ≡ length (x ∷ xs)
+  pub one-piece : (x : ℕ) (xs ys : List ℕ) → script x ≡ NoScript → span_length m words (x ∷ xs) ≡ length (x ∷ xs)
       → ((zs : List ℕ) → inner None ((x ∷ xs) ++ zs) ≡ inner None (x ∷ xs) ++ shift_all (length (x ∷ xs)) (inner None zs))
       → AreSplit (x ∷ xs) ys
   one-piece x xs ys is all splits =
@@ -125,7 +125,7 @@ module _ (m : Machine) (words : ScriptWords) (inner : InSpan) (nothing : inner N
       ∙ ap₂ (λ (some others : List Boundary). some ++ shift_all size others) (sym front) (sym (piece-first ys))
 
   -- the first list has more than its first span
-  more-spans : (x : ℕ) (xs ys : List ℕ) → let n = span_length m words (x ∷ xs) in
+  pub more-spans : (x : ℕ) (xs ys : List ℕ) → let n = span_length m words (x ∷ xs) in
       n < length (x ∷ xs) → AreSplit (drop n (x ∷ xs)) ys → AreSplit (x ∷ xs) ys
   more-spans x xs ys less left =
       let n : ℕ = span_length m words (x ∷ xs) in
@@ -174,7 +174,7 @@ module _ (m : Machine) (words : ScriptWords) (inner : InSpan) (nothing : inner N
 
 -- the cuts inside runs
 
-later-offsets : (before : ℕ) (boundaries : List Boundary) → offsets (shift_all before boundaries) ≡ later_places before (offsets boundaries)
+pub later-offsets : (before : ℕ) (boundaries : List Boundary) → offsets (shift_all before boundaries) ≡ later_places before (offsets boundaries)
 later-offsets before [] = refl
 later-offsets before (found ∷ boundaries) = ap (λ places. (before + found.offset) ∷ places) (later-offsets before boundaries)
 

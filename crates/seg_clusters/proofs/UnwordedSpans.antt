@@ -24,7 +24,7 @@ no-words Khmer = refl
 no-words Lao = refl
 no-words Thai = refl
 
-unworded : (m : Machine) (code_point : ℕ) → worded_script m no_words code_point ≡ NoScript
+pub unworded : (m : Machine) (code_point : ℕ) → worded_script m no_words code_point ≡ NoScript
 unworded m code_point =
     let script = (symbol_and_script m code_point).1 in
     ap (λ (found : Option Words). if_worded found script) (no-words script)

@@ -1,9 +1,9 @@
 -- Certain places: a boundary stands there whatever stands around, and a text may be split there.
-use Rattle.std.specs.Prelude.{⊤, ◌≡◌, ◌⊎◌, ℕ, ◌+◌, ◌-◌, ◌<◌, None, IfSome, IsSome, MatchOption, List, [], ◌∷◌, ◌++◌, drop, length, take, Contains}
+use Rattle.std.specs.Prelude.{⊤, ◌≡◌, ℕ, ◌+◌, ◌-◌, List, [], ◌∷◌, ◌++◌, drop, filter, length, nat_lt, take, Contains}
 use Rattle.seg_text.specs.declared.boundary.Boundary.{Boundary}
 use Rattle.seg_text.specs.Boundaries.{offsets, shift_all}
-use Rattle.seg_machine.specs.Machine.{Machine, state_at, step, symbol_and_script}
-use Rattle.seg_machine.specs.Pick.{acceptance_status}
+use Rattle.seg_machine.specs.Certain.{IsCertain}
+use Rattle.seg_machine.specs.Machine.{symbol_and_script}
 use Rattle.seg_clusters.specs.Rules.{Rules}
 use Rattle.seg_clusters.specs.Rules.Rules.{ByTable, ByMachine}
 
@@ -23,24 +23,15 @@ SplitsBetween find before one other =
     (earlier later : List ℕ) → find (earlier ++ before ∷ one ∷ other ∷ later)
     ≡ without_last (find (earlier ++ before ∷ one ∷ other ∷ [])) ++ shift_all (length earlier + 2) (drop 1 (find (other ∷ later)))
 
--- a scan in this state that reads the one symbol doesn't go on by the other
-abbrev pub StopsBetween : Machine → ℕ → ℕ → ℕ → Type 0
-StopsBetween m state one other = IfSome (step m state one) (λ next. step m next other ≡ None)
+-- the boundaries above a place
+abbrev pub above : ℕ → List Boundary → List Boundary
+above place boundaries = filter (λ (found : Boundary). nat_lt place found.offset) boundaries
 
--- a scan in this state goes on by the symbol to a state that accepts, and names no lookahead before it
-abbrev pub GoesOnBy : Machine → ℕ → ℕ → Type 0
-GoesOnBy m state symbol =
-    MatchOption (step m state symbol) ⊥ (λ next. IsSome (acceptance_status (state_at m next))) × ((state_at m state).1 ≡ None)
-
--- between two symbols no segment ends: each scan that read the one goes on by the other
-abbrev pub NeverBreaks : Machine → ℕ → ℕ → Type 0
-NeverBreaks m one other = (state : ℕ) → state < length m.states → IfSome (step m state one) (λ next. GoesOnBy m next other)
-
--- no scan passes between the last two of three symbols: none that read the first, in whatever state, and none that starts behind it, if one may
-abbrev pub IsCertain : Machine → ℕ → ℕ → ℕ → Type 0
-IsCertain m before one other =
-    ((state : ℕ) → state < length m.states → IfSome (step m state before) (λ next. StopsBetween m next one other))
-    × (StopsBetween m 0 one other ⊎ NeverBreaks m before one)
+-- in each such list, above the place between the last two stand the boundaries that what begins there has alone, so much later
+abbrev pub BeginsBetween : (List ℕ → List Boundary) → ℕ → ℕ → ℕ → Type 0
+BeginsBetween find before one other =
+    (earlier later : List ℕ) → above (length earlier + 2) (find (earlier ++ before ∷ one ∷ other ∷ later))
+    ≡ shift_all (length earlier + 2) (drop 1 (find (other ∷ later)))
 
 -- code points with such symbols; of a pair table none are known
 abbrev pub AreCertain : Rules → ℕ → ℕ → ℕ → Type 0

@@ -1,5 +1,5 @@
 -- Spans of a text by a machine: the runs of one script that has words, and the pieces between them.
-use Rattle.std.specs.Prelude.{◌≡◌, ℕ, ◌<◌, ◌==◌, Bool, Option, Some, List, [], ◌∷◌, MatchOption, None, take, ◌++◌, length}
+use Rattle.std.specs.Prelude.{◌≡◌, ◌≢◌, ℕ, ◌<◌, ◌==◌, Bool, Option, Some, List, [], ◌∷◌, MatchOption, None, take, ◌++◌, length}
 use Rattle.std.specs.List.{prefix_len}
 use Rattle.std.specs.Option.{option_map}
 use Rattle.seg_text.specs.Items.{Text, rest_after, text_before, code_points}
@@ -101,6 +101,10 @@ GivesRun m payloads text last before given after =
 -- by a machine the code point has no script that has words, so that it stands in no run
 abbrev pub IsOutsideRuns : Machine → ScriptWords → ℕ → Type 0
 IsOutsideRuns m words code_point = worded_script m words code_point ≡ scripts.None
+
+-- between the two code points another span begins: the scripts that have words, which they have or lack, differ
+abbrev pub IsSpanEdge : Machine → ScriptWords → ℕ → ℕ → Type 0
+IsSpanEdge m words one other = worded_script m words one ≢ worded_script m words other
 
 -- where the first of two lists ends with the code point, the cuts of both, joined, are those of the first, and then those of
 -- the second, so much later

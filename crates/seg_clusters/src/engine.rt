@@ -9,7 +9,8 @@ ghost use Rattle.seg_clusters.specs.Certain.{AreCertain, IsByMachine};
 ghost use Rattle.seg_clusters.specs.Rules.{HasRows, rules_of, owned_rules, ResetsAfter, boundaries_of, machine_in};
 ghost use Rattle.seg_memo.specs.Memos.{IsMemoRefusal, IsNewMemo};
 
-use crate::resets::{is_certain, is_reset};
+use crate::resets::is_reset;
+use seg_machine::certain::is_certain;
 use seg_machine::tailored_machine::{TailoredMachine, TailoredMachineBorrowed};
 use seg_memo::memo::{MemoBreakIterator, MemoError};
 use seg_memo::reader::CountedTransitions;

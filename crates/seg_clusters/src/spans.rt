@@ -3,7 +3,7 @@
 ghost use Rattle.std.specs.Prelude.{◌≡◌, ◌↔◌, IsTrue};
 ghost use Rattle.seg_data.specs.ScriptWords.{borrowed_words};
 ghost use Rattle.seg_machine.specs.Tailored.{machine_of};
-ghost use Rattle.seg_clusters.specs.Spans.{IsOutsideRuns, GivesSpan, worded_script};
+ghost use Rattle.seg_clusters.specs.Spans.{IsOutsideRuns, IsSpanEdge, GivesSpan, worded_script};
 
 use seg_data::dictionaries::DictionariesBorrowed;
 use seg_data::provider::{ComplexScript, DictionaryCursor};
@@ -54,7 +54,21 @@ pub fn is_outside_runs(
 ) -> bool
     ensures { IsTrue result ↔ IsOutsideRuns (machine_of machine.entry) (borrowed_words dictionaries.entry) code_point }
 {
-    worded_script(machine, dictionaries, code_point) == ComplexScript::None
+    dictionaries.is_empty()
+        || worded_script(machine, dictionaries, code_point) == ComplexScript::None
+}
+
+/// Whether between two code points another span begins: the scripts that have words, which the machine tells of them, differ.
+pub fn begins_span(
+    machine: TailoredMachineBorrowed<'_>,
+    dictionaries: DictionariesBorrowed<'_>,
+    one: u32,
+    other: u32,
+) -> bool
+    ensures { IsTrue result ↔ IsSpanEdge (machine_of machine.entry) (borrowed_words dictionaries.entry) one other }
+{
+    !dictionaries.is_empty()
+        && worded_script(machine, dictionaries, one) != worded_script(machine, dictionaries, other)
 }
 
 /// The next span of a text, as a text whose places, in units, are those of the whole, and the words of its script, if it is a

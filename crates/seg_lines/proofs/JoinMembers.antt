@@ -7,16 +7,16 @@ use Rattle.seg_text.specs.Boundaries.{boundary, offsets}
 use Rattle.seg_lines.specs.LineBreaks.{AreAbove, AreRising, IsCutAlone, IsJoin, joined, with_cut}
 use Rattle.seg_lines.proofs.Joins.{above-more, cut-after, cut-ahead, cut-at, with-above}
 
-abbrev In : {X : Type 0} → List X → X → Type 0
+abbrev pub In : {X : Type 0} → List X → X → Type 0
 In [] x = ⊥
 In (y ∷ ys) x = (y ≡ x) ⊎ In ys x
 
-in-to : {X : Type 0} (xs : List X) (x : X) → Contains xs x → In xs x
+pub in-to : {X : Type 0} (xs : List X) (x : X) → Contains xs x → In xs x
 in-to [] x (k, below, is) = absurd (omega (arith, below))
 in-to (y ∷ ys) x (zero, below, is) = inl is
 in-to (y ∷ ys) x (suc k, below, is) = inr (in-to ys x (k, omega (arith, below), is))
 
-in-from : {X : Type 0} (xs : List X) (x : X) → In xs x → Contains xs x
+pub in-from : {X : Type 0} (xs : List X) (x : X) → In xs x → Contains xs x
 in-from [] x is = absurd is
 in-from (y ∷ ys) x (inl is) = (0, omega arith, is)
 in-from (y ∷ ys) x (inr is) = let found = in-from ys x is in (suc found.0, omega (arith, found.1), found.2)
@@ -124,7 +124,7 @@ module _ (boundaries : List Boundary) (rising : AreRising (offsets boundaries)) 
   abbrev IsAlone : List ℕ → Boundary → Type 0
   IsAlone cuts one = (one.status ≡ 0) × In cuts one.offset × (In (offsets boundaries) one.offset → ⊥)
 
-  offset-old : (cuts : List ℕ) (n : ℕ) → In (offsets boundaries) n → In (offsets (joined boundaries cuts)) n
+  pub offset-old : (cuts : List ℕ) (n : ℕ) → In (offsets boundaries) n → In (offsets (joined boundaries cuts)) n
   offset-old cuts n is = on boundaries (joined-old cuts) is
     where
       on : (found : List Boundary) → ((one : Boundary) → In found one → In (joined boundaries cuts) one) → In (offsets found) n → In (offsets (joined boundaries cuts)) n

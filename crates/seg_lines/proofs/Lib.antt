@@ -8,4 +8,5 @@ pub mod NoMandatoryBreak
 pub mod LineLaws
 pub mod Memos
 pub mod SplitLines
+pub mod CertainLines
 pub mod Progress

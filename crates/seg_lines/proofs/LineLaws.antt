@@ -1,5 +1,5 @@
 -- Laws of the boundaries of lines.
-use Rattle.std.proofs.Common.{◌≡◌, ℕ, ◌+◌, List, ◌∷◌, ◌++◌, Contains, drop, length, refl, sym, ap, ◌∙◌, subst}
+use Rattle.std.proofs.Common.{◌≡◌, ℕ, List, drop, refl, ap, ◌∙◌, subst}
 use Rattle.seg_text.specs.declared.boundary.Boundary.{Boundary}
 use Rattle.seg_text.specs.Boundaries.{RestartsIn, offsets, Cuts, with_status, HasOneAnswer, later_boundaries}
 use Rattle.seg_text.proofs.Restarts.{restarts, restarts-as}
@@ -10,11 +10,7 @@ use Rattle.seg_machine.specs.Machine.{Machine as AnyMachine}
 use Rattle.seg_machine.specs.Pick.{machine_boundaries, machine_stretch}
 use Rattle.seg_machine.specs.declared.tailored_machine.TailoredMachineBorrowed.{TailoredMachineBorrowed}
 use Rattle.seg_machine.proofs.Segmentations.{machine-alone, machine-going}
-use Rattle.seg_clusters.specs.Certain.{AlwaysBreaks, SplitsBetween}
 use Rattle.seg_clusters.specs.Rules.{boundaries_by, first_stretch}
-use Rattle.seg_clusters.specs.Rules.Rules.{ByMachine as ByClusterMachine}
-use Rattle.seg_clusters.proofs.Certain.{certain-by}
-use Rattle.seg_clusters.proofs.CertainParts.{splits-as, splits-by}
 use Rattle.seg_clusters.proofs.ByRules.{going, restarts-by}
 use Rattle.seg_clusters.specs.Spans.{inner_cuts, inner_stretch}
 use Rattle.seg_clusters.specs.Payloads.{Payloads, piece_cuts_by, run_cuts_by}
@@ -31,7 +27,7 @@ use Rattle.seg_line_pairs.proofs.LineRestarts.{line-restarts}
 use Rattle.seg_line_pairs.proofs.LineStretches.{line-going}
 use Rattle.seg_line_turns.specs.TurnBoundaries.{turn_boundaries, StartsBear}
 use Rattle.seg_line_turns.proofs.TurnStretches.{one-list}
-use Rattle.seg_lines.specs.LineBreaks.{joined, AreBoundariesWith, HasCertainLines, HasCertainLinesWith, HasOneList, LineFinder, LineRules, LinesAreCertain, LinesAreCertainWith, MayRestart, boundaries_with, line_boundaries_by, lines_with_words}
+use Rattle.seg_lines.specs.LineBreaks.{joined, AreBoundariesWith, HasOneList, LineFinder, LineRules, MayRestart, boundaries_with, line_boundaries_by, lines_with_words}
 use Rattle.seg_lines.specs.LineBreaks.LineFinder.{ByClusters, ByPlaces, ByTable, ByTurns, ByMachine}
 use Rattle.seg_lines.specs.Lines.{finder_of}
 use Rattle.seg_lines.specs.declared.finder.Finder.{Finder}
@@ -118,50 +114,6 @@ restarts-with (ByMachine m) payloads code_points none =
 pub restarts-without : (rules : LineRules) (code_points : List ℕ) → MayRestart rules.finder rules.payloads.words code_points
     → RestartsIn (line_boundaries_by rules) code_points
 restarts-without rules = restarts-with rules.finder rules.payloads
-
--- certain places
-
-lines-break : (m : AnyMachine) (payloads : Payloads) → IsChecked m → (before one other : ℕ) → LinesAreCertainWith (ByMachine m) payloads before one other
-    → AlwaysBreaks (boundaries_with (ByMachine m) payloads) before one other
-lines-break m payloads checked before one other certain earlier later =
-    subst (λ (found : List Boundary). Contains (offsets found) (length earlier + 2)) (sym (without-cuts m payloads (earlier ++ before ∷ one ∷ other ∷ later) certain.1))
-    (certain-by (ByClusterMachine m) m refl checked before one other certain.0 earlier later)
-
-pub always-break : (rules : LineRules) (m : AnyMachine) → rules.finder ≡ ByMachine m → (before one other : ℕ) → IsChecked m → LinesAreCertain rules before one other → AlwaysBreaks (line_boundaries_by rules) before one other
-always-break rules m is before one other checked =
-    subst (λ (finder : LineFinder). LinesAreCertainWith finder rules.payloads before one other → AlwaysBreaks (boundaries_with finder rules.payloads) before one other) (sym is)
-    (lines-break m rules.payloads checked before one other)
-
-lines-split : (m : AnyMachine) (payloads : Payloads) → IsChecked m → (before one other : ℕ) → LinesAreCertainWith (ByMachine m) payloads before one other
-    → SplitsBetween (boundaries_with (ByMachine m) payloads) before one other
-lines-split m payloads checked before one other certain =
-    splits-as (boundaries_with (ByMachine m) payloads) (machine_boundaries m) (λ code_points. without-cuts m payloads code_points certain.1) before one other
-    (splits-by (ByClusterMachine m) m refl checked before one other certain.0)
-
-pub always-split : (rules : LineRules) (m : AnyMachine) → rules.finder ≡ ByMachine m → (before one other : ℕ) → IsChecked m → LinesAreCertain rules before one other → SplitsBetween (line_boundaries_by rules) before one other
-always-split rules m is before one other checked =
-    subst (λ (finder : LineFinder). LinesAreCertainWith finder rules.payloads before one other → SplitsBetween (boundaries_with finder rules.payloads) before one other) (sym is)
-    (lines-split m rules.payloads checked before one other)
-
--- what isn't a machine of lines has none
-pub none-certain : (payloads : Payloads) (finder : Finder) → ((machine : TailoredMachineBorrowed) → finder ≡ Machine machine → ⊥) → (before one other : ℕ)
-    → LinesAreCertainWith (finder_of finder) payloads before one other → ⊥
-none-certain payloads Clusters none before one other certain = certain
-none-certain payloads Places none before one other certain = certain
-none-certain payloads (Table pairs) none before one other certain = certain
-none-certain payloads (Turns pairs) none before one other certain = certain
-none-certain payloads (Machine machine) none before one other certain = none machine refl
-
-may-restart-with : (finder : LineFinder) (payloads : Payloads) → HasCertainLinesWith finder payloads → (code_points : List ℕ) → MayRestart finder payloads.words code_points
-may-restart-with ByClusters payloads certain code_points = absurd certain
-may-restart-with ByPlaces payloads certain code_points = absurd certain
-may-restart-with (ByTable rules) payloads certain code_points = absurd certain
-may-restart-with (ByTurns rules) payloads certain code_points = absurd certain
-may-restart-with (ByMachine m) payloads certain code_points = certain
-
--- where places may be certain, texts restart
-pub may-restart : (rules : LineRules) → HasCertainLines rules → (code_points : List ℕ) → MayRestart rules.finder rules.payloads.words code_points
-may-restart rules = may-restart-with rules.finder rules.payloads
 
 -- the words of each script are a set
 

@@ -1,10 +1,11 @@
 -- Boundaries without their statuses: where they are in a text, what they cover, and where they restart.
-use Rattle.std.proofs.Common.{◌≡◌, ℕ, zero, suc, ◌+◌, List, [], ◌∷◌, map, drop, refl, sym, ap, ◌∙◌}
+use Rattle.std.proofs.Common.{◌≡◌, ℕ, zero, suc, ◌+◌, ◌-◌, List, [], ◌∷◌, ◌++◌, length, map, take, drop, refl, sym, ap, ◌∙◌}
 use Rattle.std.specs.Prelude.{Option, Some, slice_get}
 use Rattle.std.specs.Option.{option_map_or}
 use Rattle.seg_text.specs.declared.boundary.Boundary.{Boundary}
 use Rattle.seg_text.specs.Items.{Text}
 use Rattle.seg_text.specs.Boundaries.{IsCover, RestartsIn, RisesTo, boundary, boundary_in, offsets, shift_all, with_status}
+use Rattle.seg_clusters.specs.Certain.{without_last}
 
 abbrev pub plain : List Boundary → List Boundary
 plain found = with_status 0 (offsets found)
@@ -13,6 +14,26 @@ pub plain-drop : (k : ℕ) (found : List Boundary) → drop k (plain found) ≡ 
 plain-drop zero found = refl
 plain-drop (suc k) [] = refl
 plain-drop (suc k) (one ∷ found) = plain-drop k found
+
+plain-take : (k : ℕ) (found : List Boundary) → take k (plain found) ≡ plain (take k found)
+plain-take zero found = refl
+plain-take (suc k) [] = refl
+plain-take (suc k) (one ∷ found) = ap (λ (rest : List Boundary). boundary one.offset 0 ∷ rest) (plain-take k found)
+
+plain-length : (found : List Boundary) → length (plain found) ≡ length found
+plain-length [] = refl
+plain-length (one ∷ found) = ap suc (plain-length found)
+
+pub plain-without-last : (found : List Boundary) → without_last (plain found) ≡ plain (without_last found)
+plain-without-last found = ap (λ (n : ℕ). take (n - 1) (plain found)) (plain-length found) ∙ plain-take (length found - 1) found
+
+pub plain-offsets : (found : List Boundary) → offsets (plain found) ≡ offsets found
+plain-offsets [] = refl
+plain-offsets (one ∷ found) = ap (λ (places : List ℕ). one.offset ∷ places) (plain-offsets found)
+
+pub plain-append : (some others : List Boundary) → plain (some ++ others) ≡ plain some ++ plain others
+plain-append [] others = refl
+plain-append (found ∷ some) others = ap (λ (rest : List Boundary). boundary found.offset 0 ∷ rest) (plain-append some others)
 
 pub plain-shift : (before : ℕ) (found : List Boundary) → plain (shift_all before found) ≡ shift_all before (plain found)
 plain-shift before [] = refl

@@ -25,13 +25,9 @@ use Rattle.seg_lines.specs.declared.finder.Finder.{Finder}
 use Rattle.seg_lines.specs.declared.finder.Finder.TheVariants.{Clusters, Places, Table, Turns, Machine}
 use Rattle.seg_lines.proofs.JoinCover.{between-above, between-at-most, counted-cover, rises-at-most}
 use Rattle.seg_lines.proofs.Joins.{AreAtMost, boundary-first, cut-after, cut-ahead, cut-at}
-use Rattle.seg_lines.proofs.PlainBoundaries.{plain, plain-cover, plain-drop, plain-shift}
+use Rattle.seg_lines.proofs.PlainBoundaries.{plain, plain-append, plain-cover, plain-drop, plain-shift}
 
 -- the places of clusters alone
-
-plain-append : (some others : List Boundary) → plain (some ++ others) ≡ plain some ++ plain others
-plain-append [] others = refl
-plain-append (found ∷ some) others = ap (λ (rest : List Boundary). boundary found.offset 0 ∷ rest) (plain-append some others)
 
 pub places-split : (payloads : Payloads) (c : ℕ) → IsScalar c → ((cs : List ℕ) → IsCover 0 (length cs) (boundaries_by payloads.clusters cs))
     → PartsTexts (boundaries_by payloads.clusters) c → PartsTexts (boundaries_with ByPlaces payloads) c
@@ -83,7 +79,7 @@ above-later before (cut ∷ cuts) above = (omega (arith, above.0), above-later b
 -- joined part by part
 
 -- one of them isn't before a number
-HasFrom : ℕ → List Boundary → Type 0
+unfoldable pub HasFrom : ℕ → List Boundary → Type 0
 HasFrom low [] = ⊥
 HasFrom low (found ∷ boundaries) = (low ≤ found.offset) ⊎ HasFrom low boundaries
 
@@ -144,7 +140,7 @@ joined-after end some others [] most above = refl
 joined-after end some others (cut ∷ cuts) most above =
     ap (with_cut cut) (joined-after end some others cuts most above.1) ∙ with-after end cut some (joined others cuts) most above.0
 
-joined-parts : (end : ℕ) (some others : List Boundary) (cuts later : List ℕ) → AreAtMost end (offsets some) → HasFrom end some
+pub joined-parts : (end : ℕ) (some others : List Boundary) (cuts later : List ℕ) → AreAtMost end (offsets some) → HasFrom end some
     → AreAtMost end cuts → AreAbove end later → joined (some ++ others) (cuts ++ later) ≡ joined some cuts ++ joined others later
 joined-parts end some others [] later most has few above = joined-after end some others later most above
 joined-parts end some others (cut ∷ cuts) later most has few above =
@@ -153,7 +149,7 @@ joined-parts end some others (cut ∷ cuts) later most has few above =
 
 -- by a machine
 
-module _ (m : AnyMachine) (payloads : Payloads) (checked : IsChecked m) (cover : CoverPieces (piece_cuts_by payloads)) (c : ℕ) (resets : LinesResetWith (ByMachine m) payloads c) where
+module _ (m : AnyMachine) (payloads : Payloads) (checked : IsChecked m) (cover : CoverPieces (piece_cuts_by payloads)) where
   abbrev plain_later : List ℕ → List Boundary
   plain_later = later_boundaries (machine_stretch m)
 
@@ -163,22 +159,31 @@ module _ (m : AnyMachine) (payloads : Payloads) (checked : IsChecked m) (cover :
   start-first : (cs : List ℕ) → boundaries_with (ByMachine m) payloads cs ≡ start ∷ joined (plain_later cs) (cuts cs)
   start-first cs = boundary-first start (plain_later cs) (cuts cs) (between-above 0 (length cs) (cuts cs) (inner-between m payloads cover cs))
 
-  lists : PartsBehind (boundaries_with (ByMachine m) payloads) (c ∷ [])
-  lists before second =
-      let first = before ++ c ∷ [] in
-      let end : ℕ = length first in
-      let found : List Boundary = machine_boundaries m first in
-      let covers = machine-covers m checked first in
-      ap₂ (λ (boundaries : List Boundary) places. joined boundaries places) (parts-lists m checked c resets.0 before second) (cuts-split m payloads c resets.1 before second)
-      ∙ joined-parts end found (shift_all end (plain_later second)) (cuts first) (later_places end (cuts second))
-      (omega arith, rises-at-most (plain_later first) 0 end covers.1) (last-from end start (plain_later first) covers.1)
-      (between-at-most 0 end (cuts first) (inner-between m payloads cover first))
-      (above-later end (cuts second) (between-above 0 (length second) (cuts second) (inner-between m payloads cover second)))
-      ∙ ap (λ (later : List Boundary). joined found (cuts first) ++ later) (joined-later end (plain_later second) (cuts second))
-      ∙ ap (λ (all : List Boundary). joined found (cuts first) ++ shift_all end (drop 1 all)) (sym (start-first second))
+  -- what is joined behind a place is what the rest has, but for its start, so much later
+  pub rest-joined : (before : ℕ) (cs : List ℕ)
+      → joined (shift_all before (plain_later cs)) (later_places before (cuts cs)) ≡ shift_all before (drop 1 (boundaries_with (ByMachine m) payloads cs))
+  rest-joined before cs = joined-later before (plain_later cs) (cuts cs) ∙ ap (λ (all : List Boundary). shift_all before (drop 1 all)) (sym (start-first cs))
 
-  pub lines-split : IsScalar c → PartsTexts (boundaries_with (ByMachine m) payloads) c
-  lines-split scalar = texts-split (boundaries_with (ByMachine m) payloads) (counted-cover m payloads checked cover) c lists scalar
+  pub cuts-above : (before : ℕ) (cs : List ℕ) → AreAbove before (later_places before (cuts cs))
+  cuts-above before cs = above-later before (cuts cs) (between-above 0 (length cs) (cuts cs) (inner-between m payloads cover cs))
+
+  pub cuts-at-most : (cs : List ℕ) → AreAtMost (length cs) (cuts cs)
+  cuts-at-most cs = between-at-most 0 (length cs) (cuts cs) (inner-between m payloads cover cs)
+
+  module _ (c : ℕ) (resets : LinesResetWith (ByMachine m) payloads c) where
+    lists : PartsBehind (boundaries_with (ByMachine m) payloads) (c ∷ [])
+    lists before second =
+        let first = before ++ c ∷ [] in
+        let end : ℕ = length first in
+        let found : List Boundary = machine_boundaries m first in
+        let covers = machine-covers m checked first in
+        ap₂ (λ (boundaries : List Boundary) places. joined boundaries places) (parts-lists m checked c resets.0 before second) (cuts-split m payloads c resets.1 before second)
+        ∙ joined-parts end found (shift_all end (plain_later second)) (cuts first) (later_places end (cuts second))
+        (omega arith, rises-at-most (plain_later first) 0 end covers.1) (last-from end start (plain_later first) covers.1) (cuts-at-most first) (cuts-above end second)
+        ∙ ap (λ (later : List Boundary). joined found (cuts first) ++ later) (rest-joined end second)
+
+    pub lines-split : IsScalar c → PartsTexts (boundaries_with (ByMachine m) payloads) c
+    lines-split scalar = texts-split (boundaries_with (ByMachine m) payloads) (counted-cover m payloads checked cover) c lists scalar
 
 -- by what isn't a machine of lines
 

@@ -8,10 +8,10 @@ use Rattle.seg_data.specs.ScriptWords.{ScriptWords, no_words}
 use Rattle.seg_pairs.specs.PairTable.{PairTable}
 use Rattle.seg_machine.specs.Machine.{Machine}
 use Rattle.seg_machine.specs.Pick.{machine_stretch}
-use Rattle.seg_clusters.specs.Certain.{AreCertain}
+use Rattle.seg_clusters.specs.Certain.{AreCertain, IsByMachine}
 use Rattle.seg_clusters.specs.Rules.{boundaries_by, first_stretch, machine_in, ResetsAfter}
 use Rattle.seg_clusters.specs.Rules.Rules.{ByMachine as ByClusterMachine, ByTable as ByClusterTable}
-use Rattle.seg_clusters.specs.Spans.{inner_cuts, inner_stretch, IsOutsideRuns}
+use Rattle.seg_clusters.specs.Spans.{inner_cuts, inner_stretch, IsOutsideRuns, IsSpanEdge}
 use Rattle.seg_clusters.specs.Payloads.{Payloads, run_cuts_by}
 use Rattle.seg_line_pairs.specs.declared.options.LineBreakStrictness.{LineBreakStrictness}
 use Rattle.seg_line_pairs.specs.declared.options.LineBreakStrictness.TheVariants as strictness
@@ -185,23 +185,25 @@ LinesResetAfter rules code_point = LinesResetWith rules.finder rules.payloads co
 
 -- Certain places: between the last two of three code points a boundary of lines stands, whatever stands around.
 
--- a machine of lines finds them, and nothing is cut inside runs, as no script has words: of others no place is known to be certain
+-- a machine finds the breaks, that of lines or that of clusters: of others no place is known to be certain
 abbrev pub HasCertainLinesWith : LineFinder → Payloads → Type 0
-HasCertainLinesWith ByClusters payloads = ⊥
-HasCertainLinesWith ByPlaces payloads = ⊥
+HasCertainLinesWith ByClusters payloads = IsByMachine payloads.clusters
+HasCertainLinesWith ByPlaces payloads = IsByMachine payloads.clusters
 HasCertainLinesWith (ByTable rules) payloads = ⊥
 HasCertainLinesWith (ByTurns rules) payloads = ⊥
-HasCertainLinesWith (ByMachine m) payloads = payloads.words ≡ no_words
+HasCertainLinesWith (ByMachine m) payloads = Unit {0}
 
 abbrev pub HasCertainLines : LineRules → Type 0
 HasCertainLines rules = HasCertainLinesWith rules.finder rules.payloads
 
+-- where clusters are found, a place is certain as one of theirs; by a machine of lines no scan passes there, and no run goes over the place
 abbrev pub LinesAreCertainWith : LineFinder → Payloads → ℕ → ℕ → ℕ → Type 0
-LinesAreCertainWith ByClusters payloads before one other = ⊥
-LinesAreCertainWith ByPlaces payloads before one other = ⊥
+LinesAreCertainWith ByClusters payloads before one other = AreCertain payloads.clusters before one other
+LinesAreCertainWith ByPlaces payloads before one other = AreCertain payloads.clusters before one other
 LinesAreCertainWith (ByTable rules) payloads before one other = ⊥
 LinesAreCertainWith (ByTurns rules) payloads before one other = ⊥
-LinesAreCertainWith (ByMachine m) payloads before one other = AreCertain (ByClusterMachine m) before one other × (payloads.words ≡ no_words)
+LinesAreCertainWith (ByMachine m) payloads before one other =
+    AreCertain (ByClusterMachine m) before one other × (IsOutsideRuns m payloads.words one ⊎ IsSpanEdge m payloads.words one other)
 
 abbrev pub LinesAreCertain : LineRules → ℕ → ℕ → ℕ → Type 0
 LinesAreCertain rules before one other = LinesAreCertainWith rules.finder rules.payloads before one other

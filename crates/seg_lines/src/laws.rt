@@ -5,7 +5,7 @@ ghost use Rattle.seg_text.specs.Boundaries.{AreSameCounted, RestartsIn};
 ghost use Rattle.seg_text.specs.Decoding.{utf8, utf16};
 ghost use Rattle.seg_text.specs.Items.{code_points};
 ghost use Rattle.seg_data.specs.ScriptWords.{ScriptWords, AreSameWords};
-ghost use Rattle.seg_clusters.specs.Certain.{AlwaysBreaks, SplitsBetween};
+ghost use Rattle.seg_clusters.specs.Certain.{AlwaysBreaks, BeginsBetween, SplitsBetween};
 ghost use Rattle.seg_clusters.specs.Rules.{PartsTexts};
 ghost use Rattle.seg_clusters.specs.Payloads.{run_cuts_by};
 ghost use Rattle.seg_line_pairs.specs.LineBoundaries.{inside, line_boundaries, KeepsMarks};
@@ -90,14 +90,18 @@ pub fn parts_behind_resets(segmenter: LineSegmenterBorrowed<'_>, code_point: cha
 
 /// Law: each list that has three code points one after another, of which `always_breaks` says so, has a boundary between the last two,
 /// whatever stands before and behind them. The list may be split there: it has the boundaries and statuses of what reaches up to the last of the
-/// three, without its end, and then those of what begins with it.
+/// three, without its end, and then those of what begins with it. So above the place it has those of what begins there.
 pub fn certain_places(segmenter: LineSegmenterBorrowed<'_>, before: u32, one: u32, other: u32)
     ensures breaks { LinesAreCertain (line_rules segmenter.entry) before one other
         → AlwaysBreaks (line_boundaries_by (line_rules segmenter.entry)) before one other }
     ensures parts { LinesAreCertain (line_rules segmenter.entry) before one other
         → SplitsBetween (line_boundaries_by (line_rules segmenter.entry)) before one other }
+    ensures begins { LinesAreCertain (line_rules segmenter.entry) before one other
+        → BeginsBetween (line_boundaries_by (line_rules segmenter.entry)) before one other }
 {
-    let _ = (before, one, other);
+    grapheme::cover(segmenter.payloads.clusters);
+    grapheme::certain_places(segmenter.payloads.clusters, before, one, other);
+    segmenter.payloads.facts();
     if let Finder::Machine(machine) = segmenter.finder {
         machine.facts();
     }

@@ -30,7 +30,7 @@ use options::{MachineChoice, choice_of};
 use seg_clusters::complex::ComplexPayloadsBorrowed;
 use seg_clusters::engine::Engine;
 use seg_clusters::grapheme::{GraphemeClusterSegmenter, GraphemeClusterSegmenterBorrowed};
-use seg_clusters::spans::is_outside_runs;
+use seg_clusters::spans::{begins_span, is_outside_runs};
 use seg_data::dictionaries::{Dictionaries, DictionariesBorrowed};
 use seg_data::provider::DataError;
 use seg_line_pairs::classic::ClassicEngine;
@@ -470,28 +470,34 @@ impl<'data> LineSegmenterBorrowed<'data> {
         }
     }
 
-    /// Whether places may be certain (`always_breaks`), as by a machine of lines, where no script has a dictionary.
+    /// Whether places may be certain (`always_breaks`), as by a machine of lines, or of clusters where those are found.
     pub fn has_certain_places(self) -> bool
         ensures { IsTrue result ↔ HasCertainLines (line_rules self.entry) }
     {
         match self.finder {
-            Finder::Machine(_) => self.payloads.dictionaries.is_empty(),
-            _ => false,
+            Finder::Clusters | Finder::Places => self.payloads.clusters.has_certain_places(),
+            Finder::Table(_) | Finder::Turns(_) => false,
+            Finder::Machine(_) => true,
         }
     }
 
     /// Whether each text that has these three code points one after another has a boundary between the last two
-    /// (`laws::certain_places`), since no scan of the machine of lines passes there. It is `false` by anything else, and where some
-    /// script has a dictionary. Takes no memory; asks the machine for at most three steps a state and three more.
+    /// (`laws::certain_places`), since no scan of the machine of lines passes there. And no run goes over the place: the second code point
+    /// has no script that has a dictionary here, or the third has not that script. Where clusters are found, it is so where it is of
+    /// clusters. By a pair table of lines it is `false`. Takes no memory.
     pub fn always_breaks(self, before: u32, one: u32, other: u32) -> bool
         ensures { IsTrue result ↔ LinesAreCertain (line_rules self.entry) before one other }
     {
         match self.finder {
+            Finder::Clusters | Finder::Places => {
+                self.payloads.clusters.always_breaks(before, one, other)
+            }
+            Finder::Table(_) | Finder::Turns(_) => false,
             Finder::Machine(machine) => {
                 Engine::Neo(machine).always_breaks(before, one, other)
-                    && self.payloads.dictionaries.is_empty()
+                    && (is_outside_runs(machine, self.payloads.dictionaries, one)
+                        || begins_span(machine, self.payloads.dictionaries, one, other))
             }
-            _ => false,
         }
     }
 

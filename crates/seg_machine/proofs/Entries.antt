@@ -72,7 +72,7 @@ ending (Some status) (Some next) entry is fast = (next, refl, refl, is)
 ending (Some status) None entry is fast = absurd (fast is)
 ending None begins entry is fast = absurd (fast is)
 
-in-range : (m : Machine) (state symbol next : ℕ) → IsChecked m → state < length m.states → symbol < symbol_count m → step m state symbol ≡ Some next → next < length m.states
+pub in-range : (m : Machine) (state symbol next : ℕ) → IsChecked m → state < length m.states → symbol < symbol_count m → step m state symbol ≡ Some next → next < length m.states
 in-range m state symbol next checked here below leads = subst (λ (found : Option ℕ). IfSome found (λ next. next < length m.states)) leads (checked.in_range state symbol here below)
 
 pub goes-on : (m : Machine) (state symbol entry : ℕ) → IsChecked m → state < length m.states → symbol < symbol_count m

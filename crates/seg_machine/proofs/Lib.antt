@@ -17,3 +17,4 @@ pub mod Engine
 pub mod Law
 pub mod Rows
 pub mod Entries
+pub mod Passes

@@ -4,6 +4,7 @@ use Rattle.std.specs.Option.{option_map_or}
 use Rattle.seg_machine.specs.Machine.{Machine, step, state_at, symbol_and_script, symbol_count}
 use Rattle.seg_machine.specs.declared.provider.Acceptance.{Acceptance}
 use Rattle.seg_machine.specs.declared.provider.Acceptance.TheVariants.{Continue, Accept, Conditional}
+use Rattle.seg_machine.specs.Passes.{ArePasses, PassData}
 use Rattle.seg_machine.specs.Pick.{acceptance_status}
 
 -- the entry that says nothing
@@ -63,13 +64,15 @@ pub record AreStatuses (m : Machine) (statuses : List ℕ) : Type 0 where
 abbrev pub AreSymbols : Machine → List ℕ → Type 0
 AreSymbols m symbols = (code_point : ℕ) → code_point < length symbols → slice_index symbols code_point ≡ (symbol_and_script m code_point).0
 
--- what the rows of a machine are: its entries, the statuses of its states, and the symbols of the first code points once more
+-- what the rows of a machine are: its entries, the statuses of its states, the symbols of the first code points once more, and its certain places
 pub record RowData : Type 0 where
   pub entries : List ℕ
   pub statuses : List ℕ
   pub symbols : List ℕ
+  pub passes : PassData
 
 pub record IsRowData (m : Machine) (rows : RowData) : Type 0 where
   pub entries : AreRows m rows.entries
   pub statuses : AreStatuses m rows.statuses
   pub symbols : AreSymbols m rows.symbols
+  pub passes : ArePasses m rows.passes

@@ -5,5 +5,7 @@ pub mod Search
 pub mod Scan
 pub mod Tailored
 pub mod Rows
+pub mod Certain
+pub mod Passes
 pub mod DenseRows
 pub mod Lemmas

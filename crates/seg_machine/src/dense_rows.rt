@@ -5,6 +5,7 @@ ghost use Rattle.seg_machine.specs.Pick.{acceptance_status};
 ghost use Rattle.seg_machine.specs.Tailored.{machine_of};
 ghost use Rattle.seg_machine.specs.DenseRows.{AreRows, AreStatuses, AreSymbols, IsRowData, end_status, index_entry, row_entry, status_of};
 
+use crate::certain::Passes;
 use crate::provider::{Acceptance, SegmenterStateMachine, State, Symbol};
 use crate::tailored_machine::TailoredMachineBorrowed;
 use std::alloc::{AllocError, Global};
@@ -27,6 +28,8 @@ pub struct DenseRows {
     statuses: Vec<u8>,
     // The symbols of the code points below U+10000, once more: one read each.
     symbols: Vec<u8>,
+    // Between which symbols no scan passes.
+    passes: Passes,
 }
 
 impl Model for DenseRows {
@@ -34,7 +37,7 @@ impl Model for DenseRows {
 
     ghost Value = { RowData };
 
-    ghost view = { λ s. record { entries = s.entries.items; statuses = s.statuses.items; symbols = s.symbols.items } };
+    ghost view = { λ s. record { entries = s.entries.items; statuses = s.statuses.items; symbols = s.symbols.items; passes = s.passes } };
 }
 
 impl DenseRows {
@@ -48,10 +51,12 @@ impl DenseRows {
         let entries = entries_of(alloc, machine)?;
         let statuses = statuses_of(alloc, machine)?;
         let symbols = symbols_of(alloc, machine)?;
+        let passes = Passes::try_from_machine(alloc, machine)?;
         Ok(DenseRows {
             entries,
             statuses,
             symbols,
+            passes,
         })
     }
 
@@ -77,6 +82,13 @@ impl DenseRows {
         ensures { result.now ≡ self.now.symbols }
     {
         self.symbols.as_slice()
+    }
+
+    /// Between which symbols no scan passes.
+    pub fn passes(&self) -> &Passes
+        ensures { result.now ≡ self.now.passes }
+    {
+        &self.passes
     }
 }
 
@@ -138,7 +150,7 @@ fn entry_at(machine: &TailoredMachineBorrowed<'_>, index: usize) -> u16
 
 // How many symbols there are.
 #[tactic(auto, unfolding(crate::specs::Machine::symbol_count))]
-fn symbols_in(machine: &TailoredMachineBorrowed<'_>) -> usize
+pub(crate) fn symbols_in(machine: &TailoredMachineBorrowed<'_>) -> usize
     ensures { result ≡ symbol_count (machine_of machine.now) }
 {
     machine.facts();

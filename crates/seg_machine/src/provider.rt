@@ -4,7 +4,7 @@ ghost use Rattle.seg_machine.specs.Scan.{HasByte, acceptance_of, byte_of};
 
 mod checks;
 mod cycles;
-mod found;
+pub(crate) mod found;
 mod machine;
 mod marks;
 mod stalls;

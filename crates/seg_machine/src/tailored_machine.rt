@@ -1,6 +1,7 @@
 //! Machines with their tailorings, as engines read them. It isn't part of the library's surface.
 ghost use Rattle.std.specs.Prelude.{◌≡◌, ◌↔◌, ℕ, ◌<◌, IsTrue, IfOk, IfErr, IfSome, Some, length};
 ghost use Rattle.std.specs.Option.{ForSome, option_map};
+ghost use Rattle.std.proofs.Props.{props};
 ghost use Rattle.seg_data.specs.Faults.{IsFaultless, IsLowestFault};
 ghost use Rattle.seg_machine.specs.MachineFaults.{HasTextSymbols, IsChecked, HasComplexBelow0100, HasTailoringFault};
 ghost use Rattle.seg_machine.specs.Scan.{IsMark};
@@ -22,7 +23,7 @@ pub struct TailoredMachine {
     // What each state does by each symbol, where that was asked for.
     rows: Option<DenseRows>,
     ghost text_symbols: { HasTextSymbols (with_tailoring machine tailoring) },
-    ghost rows_stand: { ForSome rows (IsRowData (with_tailoring machine tailoring)) },
+    ghost rows_stand: { ForSome rows (IsRowData (with_tailoring machine tailoring)) } by { Prim.hlevel props },
 }
 
 // Written out, so that it is proved here and not in each function that drops one.
@@ -99,7 +100,7 @@ pub struct TailoredMachineBorrowed<'data> {
     rows: Option<&'data DenseRows>,
     ghost text_symbols: { HasTextSymbols (with_parts machine.now pseudo_symbol_map.now (option_map (λ t. t.now) replacing)) },
     ghost plain: { ArePlainBelow (with_parts machine.now pseudo_symbol_map.now (option_map (λ t. t.now) replacing)) plain_below },
-    ghost rows_stand: { ForSome rows (λ rows. IsRowData (with_parts machine.now pseudo_symbol_map.now (option_map (λ t. t.now) replacing)) rows.now) },
+    ghost rows_stand: { ForSome rows (λ rows. IsRowData (with_parts machine.now pseudo_symbol_map.now (option_map (λ t. t.now) replacing)) rows.now) } by { Prim.hlevel props },
 }
 
 impl<'data> TailoredMachineBorrowed<'data> {

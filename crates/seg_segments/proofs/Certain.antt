@@ -1,18 +1,20 @@
 -- Certain places of texts: a cursor may start at one.
-use Rattle.std.proofs.Common.{◌≡◌, ℕ, suc, ◌+◌, ◌≤◌, ◌⊎◌, List, [], ◌∷◌, ◌++◌, Contains, get_or, length, map, take, drop, refl, sym, ap, ◌∙◌, subst, inl, inr, arith, append_assoc}
-use Rattle.std.specs.Prelude.{IsTrue, Bool}
-use Rattle.std.proofs.lemmas.List.{length-map, map-append, take-append-drop}
-use Rattle.std.proofs.lemmas.List.Elements.{Contains-append_right, Contains-append_cases}
+use Rattle.std.proofs.Common.{◌≡◌, ℕ, suc, ◌+◌, ◌≤◌, ◌⊎◌, List, [], ◌∷◌, ◌++◌, Contains, length, map, take, drop, cond, true, false, zero, refl, sym, ap, ap₂, ◌∙◌, subst, inl, inr, arith, append_assoc}
+use Rattle.std.specs.Prelude.{IsTrue, Bool, nat_lt}
+use Rattle.std.proofs.lemmas.Bool.{ltb-false}
+use Rattle.std.proofs.lemmas.List.{drop-map, length-map, map-append, take-append-drop}
 use Rattle.seg_text.specs.declared.boundary.Boundary.{Boundary}
-use Rattle.seg_text.specs.Boundaries.{HasRestart, IsCover, RisesTo, boundaries_in, boundary_in, offsets}
-use Rattle.seg_text.specs.Items.{Item, Text, code_points, place_of, rest_after, start_of}
-use Rattle.seg_text.proofs.GoingOn.{GoesOn}
-use Rattle.seg_clusters.specs.Certain.{AlwaysBreaks}
+use Rattle.seg_text.specs.Boundaries.{IsCover, boundaries_in, boundary_in, offsets, shift_all}
+use Rattle.seg_text.specs.Items.{IsRising, Item, Text, code_points, place_of, rest_after, start_of}
+use Rattle.seg_text.proofs.Places.{in-shift}
+use Rattle.seg_clusters.specs.Certain.{AlwaysBreaks, BeginsBetween, above}
 use Rattle.seg_clusters.specs.Rules.{PartsBehind}
-use Rattle.seg_segments.specs.NearBoundaries.{IsPart, MayBegin, boundaries_of_units, line_feed, places_of_units}
-use Rattle.seg_segments.specs.TextSegments.{IsPlace}
+use Rattle.seg_clusters.proofs.SplitItems.{later-codes, later-place}
+use Rattle.seg_segments.specs.declared.cursor.certain.Start.{Start}
+use Rattle.seg_segments.specs.NearBoundaries.{IsPart, IsTold, MayBegin, boundaries_of_units, line_feed, places_of_units}
+use Rattle.seg_segments.specs.TextSegments.{IsPlace, later_text}
 use Rattle.seg_segments.proofs.Nearest.{has-none, has-cases, has-here, has-later}
-use Rattle.seg_segments.proofs.Parts.{cover-start, has-mapped, line-part, mapped-has, whole-part}
+use Rattle.seg_segments.proofs.Parts.{among-all, behind-first, has-mapped, line-part, mapped-has, start-part}
 
 -- ---- a certain place is one of a text's boundaries
 
@@ -29,29 +31,48 @@ pub record ReadsTwo (text : Text) (before one : ℕ) (left : Text) : Type 0 wher
   pub items : text.items ≡ earlier ++ (place, before) ∷ (other_place, one) ∷ left.items
   pub end : left.end ≡ text.end
 
-place-behind : (earlier : List Item) (a b : Item) (later : List Item) (end : ℕ) → place_of (drop (suc (suc (length earlier))) (earlier ++ a ∷ b ∷ later)) end ≡ place_of later end
-place-behind [] a b later end = refl
-place-behind (item ∷ earlier) a b later end = place-behind earlier a b later end
+items-behind : (earlier : List Item) (a b : Item) (later : List Item) → drop (suc (suc (length earlier))) (earlier ++ a ∷ b ∷ later) ≡ later
+items-behind [] a b later = refl
+items-behind (item ∷ earlier) a b later = items-behind earlier a b later
 
--- the item that is read next stands at a boundary
-pub certain-here : (find : List ℕ → List Boundary) (text left : Text) (later : List Item) (before one at other : ℕ) → ReadsTwo text before one left
-    → left.items ≡ (at, other) ∷ later → AlwaysBreaks find before one other → Contains (offsets (boundaries_in find text)) at
-certain-here find text left later before one at other read next always =
-    let earlier = read.earlier in
-    let items : text.items ≡ earlier ++ (read.place, before) ∷ (read.other_place, one) ∷ (at, other) ∷ later =
-    read.items ∙ ap (λ (rest : List Item). earlier ++ (read.place, before) ∷ (read.other_place, one) ∷ rest) next in
-    let codes : code_points text.items ≡ code_points earlier ++ before ∷ one ∷ other ∷ code_points later =
-    ap code_points items ∙ map-append (λ (item : Item). item.1) earlier ((read.place, before) ∷ (read.other_place, one) ∷ (at, other) ∷ later) in
-    let there : Contains (offsets (find (code_points text.items))) (length (code_points earlier) + 2) =
-    subst (λ (codes : List ℕ). Contains (offsets (find codes)) (length (code_points earlier) + 2)) (sym codes) (always (code_points earlier) (code_points later)) in
-    let count : length (code_points earlier) ≡ length earlier = length-map earlier (λ (item : Item). item.1) in
-    let two : length (code_points earlier) + 2 ≡ suc (suc (length earlier)) = omega (arith, count) in
-    let here : start_of (rest_after (length (code_points earlier) + 2) text) ≡ at =
-    ap (λ (n : ℕ). place_of (drop n text.items) text.end) two ∙ ap (λ (items : List Item). place_of (drop (suc (suc (length earlier))) items) text.end) items
-    ∙ place-behind earlier (read.place, before) (read.other_place, one) ((at, other) ∷ later) text.end in
-    subst (λ (places : List ℕ). Contains places at) (sym (places-in text (find (code_points text.items))))
-    (subst (Contains (map (λ (n : ℕ). start_of (rest_after n text)) (offsets (find (code_points text.items))))) here
-    (has-mapped (λ (n : ℕ). start_of (rest_after n text)) (offsets (find (code_points text.items))) (length (code_points earlier) + 2) there))
+-- the item that is read next
+module _ (text left : Text) (later : List Item) (before one at other : ℕ) (read : ReadsTwo text before one left) (next : left.items ≡ (at, other) ∷ later) where
+  abbrev count : ℕ
+  count = length (code_points read.earlier) + 2
+
+  items-is : text.items ≡ read.earlier ++ (read.place, before) ∷ (read.other_place, one) ∷ (at, other) ∷ later
+  items-is = read.items ∙ ap (λ (rest : List Item). read.earlier ++ (read.place, before) ∷ (read.other_place, one) ∷ rest) next
+
+  codes-are : code_points text.items ≡ code_points read.earlier ++ before ∷ one ∷ other ∷ code_points later
+  codes-are =
+      ap code_points items-is
+      ∙ map-append (λ (item : Item). item.1) read.earlier ((read.place, before) ∷ (read.other_place, one) ∷ (at, other) ∷ later)
+
+  rest-is : drop count text.items ≡ (at, other) ∷ later
+  rest-is =
+      let two : count ≡ suc (suc (length read.earlier)) = omega (arith, length-map read.earlier (λ (item : Item). item.1)) in
+      ap₂ (λ (n : ℕ) (items : List Item). drop n items) two items-is
+      ∙ items-behind read.earlier (read.place, before) (read.other_place, one) ((at, other) ∷ later)
+
+  here : start_of (rest_after count text) ≡ at
+  here = ap (λ (items : List Item). place_of items text.end) rest-is
+
+  -- it stands at a boundary
+  pub certain-here : (find : List ℕ → List Boundary) → AlwaysBreaks find before one other → Contains (offsets (boundaries_in find text)) at
+  certain-here find always =
+      let there : Contains (offsets (find (code_points text.items))) count =
+      subst (λ (codes : List ℕ). Contains (offsets (find codes)) count) (sym codes-are) (always (code_points read.earlier) (code_points later)) in
+      subst (λ (places : List ℕ). Contains places at) (sym (places-in text (find (code_points text.items))))
+      (subst (Contains (map (λ (n : ℕ). start_of (rest_after n text)) (offsets (find (code_points text.items))))) here
+      (has-mapped (λ (n : ℕ). start_of (rest_after n text)) (offsets (find (code_points text.items))) count there))
+
+  -- above it stand the boundaries that what is left has alone
+  begins-here : (find : List ℕ → List Boundary) → BeginsBetween find before one other
+      → above count (find (code_points text.items)) ≡ shift_all count (drop 1 (find (code_points (drop count text.items))))
+  begins-here find begins =
+      ap (λ (codes : List ℕ). above count (find codes)) codes-are
+      ∙ begins (code_points read.earlier) (code_points later)
+      ∙ ap (λ (items : List Item). shift_all count (drop 1 (find (code_points items)))) (sym rest-is)
 
 -- what is left where a cursor went on to the place of an item
 pub sought : (text old new : Text) (from : ℕ) → old ≡ text → ((k : ℕ) → from ≡ start_of (rest_after k old) → new ≡ rest_after k old)
@@ -85,95 +106,141 @@ reads-next text before one at other left later read next end = record {
   end = end ∙ read.end;
 }
 
--- ---- the part from such a place on
+-- ---- the part from a place on where all is as alone
 
-no-place : (place : ℕ) (later : List ℕ) → [] ≡ place ∷ later → ⊥
-no-place place later is = let same : 0 ≡ suc (length later) = ap length is in omega (arith, same)
+later-places : (before : ℕ) (text : Text) (counted : List Boundary)
+    → offsets (map (boundary_in (later_text before text)) counted) ≡ map (λ (place : ℕ). before + place) (offsets (map (boundary_in text) counted))
+later-places before text [] = refl
+later-places before text (one ∷ counted) =
+    ap₂ (λ (place : ℕ) (places : List ℕ). place ∷ places)
+    (ap (λ (items : List Item). place_of items (before + text.end)) (drop-map (λ (item : Item). (before + item.0, item.1)) one.offset text.items)
+    ∙ later-place before text.end (drop one.offset text.items))
+    (later-places before text counted)
 
--- of places that rise, those before one are no greater
-rises-before : (from end : ℕ) (boundaries : List Boundary) → RisesTo from boundaries end → (before : List ℕ) (place : ℕ) (later : List ℕ) → offsets boundaries ≡ before ++ place ∷ later
-    → (other : ℕ) → Contains before other → other ≤ place
-rises-before from end boundaries rises [] place later is other has = absurd (has-none other has)
-rises-before from end [] rises (first ∷ before) place later is other has = absurd (no-place first (before ++ place ∷ later) is)
-rises-before from end (one ∷ boundaries) rises (first ∷ before) place later is other has =
-    elim (has-cases first before other has) [
-      | inl here ↦
-          let below : one.offset ≤ place = least one.offset end boundaries rises.1 before place later (ap (drop 1) is) in
-          let same : one.offset ≡ first = ap (λ (places : List ℕ). get_or places 0 0) is in
-          omega (arith, here, below, same)
-      | inr more ↦ rises-before one.offset end boundaries rises.1 before place later (ap (drop 1) is) other more
-    ]
-  where
-    least : (from end : ℕ) (boundaries : List Boundary) → RisesTo from boundaries end → (before : List ℕ) (place : ℕ) (later : List ℕ) → offsets boundaries ≡ before ++ place ∷ later → from ≤ place
-    least from end [] rises [] place later is = absurd (no-place place later is)
-    least from end [] rises (first ∷ before) place later is = absurd (no-place first (before ++ place ∷ later) is)
-    least from end (one ∷ boundaries) rises [] place later is = let same : one.offset ≡ place = ap (λ (places : List ℕ). get_or places 0 0) is in omega (arith, rises.0, same)
-    least from end (one ∷ boundaries) rises (first ∷ before) place later is =
-        let below = least one.offset end boundaries rises.1 before place later (ap (drop 1) is) in omega (arith, rises.0, below)
+-- later items begin later
+places-rise : (items : List Item) (end m n : ℕ) → IsRising items end → m ≤ n → place_of (drop m items) end ≤ place_of (drop n items) end
+places-rise items end zero zero rising order = omega arith
+places-rise items end (suc m) zero rising order = absurd (omega (arith, order))
+places-rise [] end zero (suc n) rising order = omega arith
+places-rise [] end (suc m) (suc n) rising order = omega arith
+places-rise (item ∷ items) end zero (suc n) rising order = omega (arith, rising.0, places-rise items end zero n rising.1 (omega arith))
+places-rise (item ∷ items) end (suc m) (suc n) rising order = places-rise items end m n rising.1 (omega (arith, order))
 
-covers-before : (end : ℕ) (boundaries : List Boundary) → IsCover 0 end boundaries → (before : List ℕ) (place : ℕ) (later : List ℕ) → offsets boundaries ≡ before ++ place ∷ later
-    → (other : ℕ) → Contains before other → other ≤ place
-covers-before end [] cover before place later is other has = absurd cover
-covers-before end (one ∷ boundaries) cover [] place later is other has = absurd (has-none other has)
-covers-before end (one ∷ boundaries) cover (first ∷ before) place later is other has =
-    elim (has-cases first before other has) [
-      | inl here ↦ let zero_first : one.offset ≡ first = ap (λ (places : List ℕ). get_or places 0 0) is in omega (arith, here, zero_first, cover.0)
-      | inr more ↦ rises-before 0 end boundaries cover.1 before place later (ap (drop 1) is) other more
-    ]
+module _ (text : Text) (count : ℕ) where
+  above-among : (counted : List Boundary) (place : ℕ) → Contains (offsets (map (boundary_in text) (above count counted))) place
+      → Contains (offsets (map (boundary_in text) counted)) place
+  above-among [] place has = has
+  above-among (one ∷ counted) place has = on (nat_lt count one.offset) has (above-among counted place)
+    where
+      on : (b : Bool) → Contains (offsets (map (boundary_in text) (cond b (one ∷ above count counted) (above count counted)))) place
+          → (Contains (offsets (map (boundary_in text) (above count counted))) place → Contains (offsets (map (boundary_in text) counted)) place)
+          → Contains (start_of (rest_after one.offset text) ∷ offsets (map (boundary_in text) counted)) place
+      on true has rest =
+          elim (has-cases (start_of (rest_after one.offset text)) (offsets (map (boundary_in text) (above count counted))) place has) [
+            | inl is ↦ subst (Contains (start_of (rest_after one.offset text) ∷ offsets (map (boundary_in text) counted))) is (has-here _ _)
+            | inr later ↦ has-later _ _ place (rest later)
+          ]
+      on false has rest = has-later _ _ place (rest has)
 
-first-place : (end : ℕ) (boundaries : List Boundary) → IsCover 0 end boundaries → (place : ℕ) → Contains (offsets boundaries) place → (place ≡ 0) ⊎ Contains (offsets (drop 1 boundaries)) place
-first-place end [] cover place has = absurd cover
-first-place end (one ∷ boundaries) cover place has =
-    elim (has-cases one.offset (offsets boundaries) place has) [
-      | inl here ↦ inl (omega (arith, here, cover.0))
-      | inr later ↦ inr later
-    ]
+  among-above : IsRising text.items text.end → (counted : List Boundary) (place : ℕ) → Contains (offsets (map (boundary_in text) counted)) place
+      → (place ≤ start_of (rest_after count text)) ⊎ Contains (offsets (map (boundary_in text) (above count counted))) place
+  among-above rising [] place has = absurd (has-none place has)
+  among-above rising (one ∷ counted) place has =
+      elim (has-cases (start_of (rest_after one.offset text)) (offsets (map (boundary_in text) counted)) place has) [
+        | inl is ↦ here (nat_lt count one.offset) refl is
+        | inr later ↦ elim (among-above rising counted place later) [
+          | inl early ↦ inl early
+          | inr late ↦ inr (there (nat_lt count one.offset) late)
+        ]
+      ]
+    where
+      here : (b : Bool) → nat_lt count one.offset ≡ b → start_of (rest_after one.offset text) ≡ place
+          → (place ≤ start_of (rest_after count text))
+          ⊎ Contains (offsets (map (boundary_in text) (cond b (one ∷ above count counted) (above count counted)))) place
+      here true test is =
+          inr (subst (Contains (start_of (rest_after one.offset text) ∷ offsets (map (boundary_in text) (above count counted)))) is (has-here _ _))
+      here false test is =
+          inl (omega (arith, is, places-rise text.items text.end one.offset count rising (ltb-false count one.offset test)))
 
-behind-first : (boundaries : List Boundary) (place : ℕ) → Contains (offsets (drop 1 boundaries)) place → Contains (offsets boundaries) place
-behind-first [] place has = has
-behind-first (one ∷ boundaries) place has = has-later one.offset (offsets boundaries) place has
+      there : (b : Bool) → Contains (offsets (map (boundary_in text) (above count counted))) place
+          → Contains (offsets (map (boundary_in text) (cond b (one ∷ above count counted) (above count counted)))) place
+      there true late = has-later _ _ place late
+      there false late = late
 
-pub part-behind : (find : List ℕ → List Boundary) (decode : List ℕ → Text) (units : List ℕ) (from : ℕ) → GoesOn find decode units from
-    → IsCover 0 (length units) (boundaries_of_units decode find units) → IsCover 0 (length (drop from units)) (boundaries_of_units decode find (drop from units))
-    → IsPart (places_of_units decode find units) from (places_of_units decode find (drop from units))
-part-behind find decode units from (before, is) whole cover =
-    let rest = boundaries_of_units decode find (drop from units) in
-    let later = map (λ (place : ℕ). from + place) (offsets (drop 1 rest)) in
-    record {
-      starts = cover-start (length (drop from units)) rest cover;
-      among = λ place has. subst (λ (places : List ℕ). Contains places (from + place)) (sym is)
-          (elim (first-place (length (drop from units)) rest cover place has) [
-            | inl start ↦ Contains-append_right before _ _ (subst (Contains (from ∷ later)) (omega (arith, start)) (has-here from later))
-            | inr more ↦ Contains-append_right before _ _ (has-later from later (from + place) (has-mapped (λ (place : ℕ). from + place) (offsets (drop 1 rest)) place more))
-          ]);
-      all = λ place has.
-          elim (Contains-append_cases before _ place (subst (λ (places : List ℕ). Contains places place) is has)) [
-            | inl early ↦ inl (covers-before (length units) (boundaries_of_units decode find units) whole before from later is place early)
-            | inr late ↦
-                elim (has-cases from later place late) [
-                  | inl here ↦ inl (omega (arith, here))
-                  | inr more ↦
-                      let found = mapped-has (λ (place : ℕ). from + place) (offsets (drop 1 rest)) place more in
-                      inr (found.0, behind-first rest found.0 found.1, found.2)
-                ]
-          ];
-    }
+module _ (find : List ℕ → List Boundary) (decode : List ℕ → Text) (units : List ℕ) (count : ℕ)
+    (rests : rest_after count (decode units) ≡ later_text (start_of (rest_after count (decode units))) (decode (drop (start_of (rest_after count (decode units))) units)))
+    (rising : IsRising (decode units).items (decode units).end)
+    (is : above count (find (code_points (decode units).items)) ≡ shift_all count (drop 1 (find (code_points (drop count (decode units).items))))) where
+  abbrev text : Text
+  text = decode units
 
--- the part from a place on at which a search may begin
-pub part-from : (decode : List ℕ → Text) (find : List ℕ → List Boundary) (has_parts : Bool) (units first part : List ℕ) (start : ℕ)
-    → ((from : ℕ) → HasRestart find → Contains (places_of_units decode find units) from → GoesOn find decode units from)
-    → MayBegin decode find has_parts units start → (IsTrue has_parts → PartsBehind (boundaries_of_units decode find) line_feed)
-    → first ≡ take start units → part ≡ drop start units → IsCover 0 (length units) (boundaries_of_units decode find units)
-    → IsCover 0 (length first) (boundaries_of_units decode find first) → IsCover 0 (length part) (boundaries_of_units decode find part)
-    → IsPart (places_of_units decode find units) start (places_of_units decode find part)
-part-from decode find has_parts units first part start goes (inl at_start) parts is_first is_part whole covers cover =
-    let rest : part ≡ units = is_part ∙ ap (λ (n : ℕ). drop n units) at_start in
-    subst (λ (place : ℕ). IsPart (places_of_units decode find units) place (places_of_units decode find part)) (sym at_start)
-    (subst (λ (text : List ℕ). IsPart (places_of_units decode find units) 0 (places_of_units decode find text)) (sym rest)
-    (whole-part (length units) (boundaries_of_units decode find units) whole))
-part-from decode find has_parts units first part start goes (inr (inl (may, begins))) parts is_first is_part whole covers cover =
-    line-part decode find units first part start is_first is_part begins (parts may) whole covers cover
-part-from decode find has_parts units first part start goes (inr (inr (restart, there))) parts is_first is_part whole covers cover =
-    subst (λ (text : List ℕ). IsPart (places_of_units decode find units) start (places_of_units decode find text)) (sym is_part)
-    (part-behind find decode units start (goes start restart there) whole
-    (subst (λ (text : List ℕ). IsCover 0 (length text) (boundaries_of_units decode find text)) is_part cover))
+  abbrev from : ℕ
+  from = start_of (rest_after count text)
+
+  abbrev rest : Text
+  rest = decode (drop from units)
+
+  above-places : offsets (map (boundary_in text) (above count (find (code_points text.items)))) ≡ map (λ (place : ℕ). from + place) (drop 1 (offsets (boundaries_in find rest)))
+  above-places =
+      let codes : code_points (drop count text.items) ≡ code_points rest.items = ap (λ (left : Text). code_points left.items) rests ∙ later-codes from rest.items in
+      let counted = drop 1 (find (code_points rest.items)) in
+      ap (λ (counted : List Boundary). offsets (map (boundary_in text) counted)) (is ∙ ap (λ (codes : List ℕ). shift_all count (drop 1 (find codes))) codes)
+      ∙ ap offsets (in-shift text count counted)
+      ∙ ap (λ (left : Text). offsets (map (boundary_in left) counted)) rests
+      ∙ later-places from rest counted
+      ∙ ap (λ (found : List Boundary). map (λ (place : ℕ). from + place) (offsets found)) (sym (drop-map (boundary_in rest) 1 (find (code_points rest.items))))
+      ∙ ap (map (λ (place : ℕ). from + place)) (sym (behind-first (boundaries_in find rest)))
+
+  part-alone : IsPart (places_of_units decode find units) from (places_of_units decode find (drop from units))
+  part-alone = record {
+    among = λ place has.
+        above-among text count (find (code_points text.items)) (from + place)
+        (subst (λ (places : List ℕ). Contains places (from + place)) (sym above-places)
+        (has-mapped (λ (place : ℕ). from + place) (drop 1 (offsets (boundaries_in find rest))) place has));
+    all = λ place has.
+        elim (among-above text count rising (find (code_points text.items)) place has) [
+          | inl early ↦ inl early
+          | inr late ↦
+              let found =
+              mapped-has (λ (place : ℕ). from + place) (drop 1 (offsets (boundaries_in find rest))) place (subst (λ (places : List ℕ). Contains places place) above-places late) in
+              inr (found.0, among-all (offsets (boundaries_in find rest)) found.0 found.1, found.2)
+        ];
+  }
+
+-- the part from an item on that is read next, where what begins with it is as alone
+pub part-begins : (find : List ℕ → List Boundary) (decode : List ℕ → Text) (units : List ℕ) (left : Text) (later : List Item) (before one at other : ℕ)
+    → ((count : ℕ) → let from = start_of (rest_after count (decode units)) in rest_after count (decode units) ≡ later_text from (decode (drop from units)))
+    → IsRising (decode units).items (decode units).end → ReadsTwo (decode units) before one left → left.items ≡ (at, other) ∷ later → BeginsBetween find before one other
+    → IsPart (places_of_units decode find units) at (places_of_units decode find (drop at units))
+part-begins find decode units left later before one at other rests rising read next begins =
+    let n = length (code_points read.earlier) + 2 in
+    subst (λ (from : ℕ). IsPart (places_of_units decode find units) from (places_of_units decode find (drop from units)))
+    (here (decode units) left later before one at other read next)
+    (part-alone find decode units n (rests n) rising (begins-here (decode units) left later before one at other read next find begins))
+
+-- what the item that is read next tells
+pub told-here : (find : List ℕ → List Boundary) (decode : List ℕ → Text) (units : List ℕ) (left : Text) (later : List Item) (before one at other : ℕ) (is_boundary : Bool)
+    → ((count : ℕ) → let from = start_of (rest_after count (decode units)) in rest_after count (decode units) ≡ later_text from (decode (drop from units)))
+    → IsRising (decode units).items (decode units).end → ReadsTwo (decode units) before one left → left.items ≡ (at, other) ∷ later
+    → (IsTrue is_boundary → AlwaysBreaks find before one other) → BeginsBetween find before one other → IsTold decode find units (record { place = at; is_boundary = is_boundary })
+told-here find decode units left later before one at other is_boundary rests rising read next breaks begins = (
+  part-begins find decode units left later before one at other rests rising read next begins,
+  λ known. certain-here (decode units) left later before one at other read next find (breaks known),
+)
+
+-- ---- the part from a place on at which a search may begin
+
+module _ (decode : List ℕ → Text) (find : List ℕ → List Boundary) (has_parts : Bool) (units first part : List ℕ) (start : Start)
+    (parts : IsTrue has_parts → PartsBehind (boundaries_of_units decode find) line_feed)
+    (is_first : first ≡ take start.place units) (is_part : part ≡ drop start.place units) (whole : IsCover 0 (length units) (boundaries_of_units decode find units))
+    (covers : IsCover 0 (length first) (boundaries_of_units decode find first)) where
+  pub part-from : MayBegin decode find has_parts units start → IsPart (places_of_units decode find units) start.place (places_of_units decode find part)
+  part-from (inl at_start) = (start-part decode find units part start.place at_start is_part whole).0
+  part-from (inr (inl (may, begins))) = (line-part decode find units first part start.place is_first is_part begins (parts may) whole covers).0
+  part-from (inr (inr (alone, known))) =
+      subst (λ (text : List ℕ). IsPart (places_of_units decode find units) start.place (places_of_units decode find text)) (sym is_part) alone
+
+  pub boundary-from : MayBegin decode find has_parts units start → IsTrue start.is_boundary → Contains (places_of_units decode find units) start.place
+  boundary-from (inl at_start) known = (start-part decode find units part start.place at_start is_part whole).1
+  boundary-from (inr (inl (may, begins))) known = (line-part decode find units first part start.place is_first is_part begins (parts may) whole covers).1
+  boundary-from (inr (inr (alone, at))) known = at known

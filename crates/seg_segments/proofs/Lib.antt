@@ -1,4 +1,5 @@
 pub mod Callers
+mod EachWord
 mod Cutting
 mod Whole
 mod Hints
@@ -13,6 +14,8 @@ mod Sources
 mod Beginnings
 mod Reading
 mod Texts
+mod Stops
 mod Feeds
+mod Spaceless
 mod Exact
 mod Held

@@ -1,6 +1,7 @@
 -- Parts of texts.
-use Rattle.std.proofs.Common.{◌≡◌, ℕ, suc, ◌+◌, ◌-◌, ◌<◌, ◌≤◌, ◌⊎◌, List, [], ◌∷◌, ◌++◌, length, map, drop, take, get_or, append_assoc, refl, sym, ap, subst, ◌∙◌, arith, inl, inr}
-use Rattle.std.specs.Prelude.{Some, None, Contains}
+use Rattle.std.proofs.Common.{◌≡◌, ℕ, suc, ◌+◌, ◌-◌, ◌<◌, ◌≤◌, ◌⊎◌, List, [], ◌∷◌, ◌++◌, length, map, drop, take, get_or, append_assoc, refl, sym, ap, subst, subst₂, ◌∙◌, arith, inl, inr}
+use Rattle.std.specs.Prelude.{Option, Some, None, Contains}
+use Rattle.std.proofs.lemmas.Bool.Decides.{leb_tells}
 use Rattle.std.proofs.lemmas.List.{length-append, length-take-le, take-append-drop}
 use Rattle.std.proofs.Math.Seq.{drop-append_seam, drop-cons, take-append_seam}
 use Rattle.std.proofs.lemmas.List.Elements.{Contains-append_left, Contains-append_right, Contains-append_cases}
@@ -9,7 +10,7 @@ use Rattle.seg_text.specs.Boundaries.{IsCover, RisesTo, offsets, shift_all}
 use Rattle.seg_text.specs.Decoding.{utf8, utf16}
 use Rattle.seg_text.specs.Items.{Text}
 use Rattle.seg_clusters.specs.Rules.{PartsBehind, PartsTexts}
-use Rattle.seg_segments.specs.NearBoundaries.{BeginsLine, IsNearestAbove, IsNearestBelow, IsPart, boundaries_of_units, line_feed, places_of_units}
+use Rattle.seg_segments.specs.NearBoundaries.{BeginsLine, IsNearestAbove, IsNearestBelow, IsPart, StartsAt, boundaries_of_units, line_feed, places_of_units}
 use Rattle.seg_segments.proofs.Nearest.{has-none, has-cases, has-here, has-later}
 
 -- ---- what covers contain
@@ -78,72 +79,77 @@ mapped-has f (one ∷ places) image has =
       | inr later ↦ let found = mapped-has f places image later in (found.0, has-later one places found.0 found.1, found.2)
     ]
 
-joined-part : (before end : ℕ) (first second : List Boundary) → IsCover 0 before first → IsCover 0 end second
+-- places but the first
+pub behind-first : (boundaries : List Boundary) → drop 1 (offsets boundaries) ≡ offsets (drop 1 boundaries)
+behind-first [] = refl
+behind-first (one ∷ boundaries) = refl
+
+pub among-all : (places : List ℕ) (place : ℕ) → Contains (drop 1 places) place → Contains places place
+among-all [] place has = has
+among-all (one ∷ places) place has = has-later one places place has
+
+pub cover-starts : (end : ℕ) (boundaries : List Boundary) → IsCover 0 end boundaries → StartsAt 0 (offsets boundaries)
+cover-starts end [] cover = absurd cover
+cover-starts end (one ∷ boundaries) cover = ap (λ (place : ℕ). place ∷ offsets boundaries) cover.0
+
+joined-part : (before : ℕ) (first second : List Boundary) → IsCover 0 before first
     → IsPart (offsets first ++ map (λ (place : ℕ). before + place) (offsets (drop 1 second))) before (offsets second)
-joined-part before end first [] covers cover = absurd cover
-joined-part before end first (one ∷ second) covers cover = record {
-  starts = cover-start end (one ∷ second) cover;
+joined-part before first second covers = record {
   among = λ place has.
-      elim (has-cases one.offset (offsets second) place has) [
-        | inl here ↦ Contains-append_left (offsets first) _ _ (subst (Contains (offsets first)) (omega (arith, here, cover.0)) (cover-end before first covers))
-        | inr later ↦ Contains-append_right (offsets first) _ _ (has-mapped (λ (place : ℕ). before + place) (offsets second) place later)
-      ];
+      Contains-append_right (offsets first) _ _
+      (has-mapped (λ (place : ℕ). before + place) (offsets (drop 1 second)) place (subst (λ (places : List ℕ). Contains places place) (behind-first second) has));
   all = λ place has.
       elim (Contains-append_cases (offsets first) _ place has) [
         | inl early ↦ inl (cover-within before first place covers early)
         | inr late ↦
-            let found = mapped-has (λ (place : ℕ). before + place) (offsets second) place late in
-            inr (found.0, has-later one.offset (offsets second) found.0 found.1, found.2)
+            let found = mapped-has (λ (place : ℕ). before + place) (offsets (drop 1 second)) place late in
+            inr (found.0, among-all (offsets second) found.0 (subst (λ (places : List ℕ). Contains places found.0) (sym (behind-first second)) found.1), found.2)
       ];
 }
 
 -- ---- the part from the start of a line on
 
-pub whole-part : (end : ℕ) (boundaries : List Boundary) → IsCover 0 end boundaries → IsPart (offsets boundaries) 0 (offsets boundaries)
-whole-part end boundaries cover = record {
-  starts = cover-start end boundaries cover;
-  among = λ place has. subst (Contains (offsets boundaries)) (omega arith) has;
+pub whole-part : (places : List ℕ) → IsPart places 0 places
+whole-part places = record {
+  among = λ place has. subst (Contains places) (omega arith) (among-all places place has);
   all = λ place has. inr (place, has, omega arith);
 }
 
-split : (decode : List ℕ → Text) (find : List ℕ → List Boundary) (before second : List ℕ) → PartsBehind (boundaries_of_units decode find) line_feed
-    → IsCover 0 (length (before ++ line_feed)) (boundaries_of_units decode find (before ++ line_feed)) → IsCover 0 (length second) (boundaries_of_units decode find second)
-    → IsPart (places_of_units decode find ((before ++ line_feed) ++ second)) (length (before ++ line_feed)) (places_of_units decode find second)
-split decode find before second parts covers cover =
-    let first : List ℕ = before ++ line_feed in
-    subst (λ (places : List ℕ). IsPart places (length first) (places_of_units decode find second))
-    (sym (ap offsets (parts before second) ∙ joined-offsets (length first) (boundaries_of_units decode find first) (drop 1 (boundaries_of_units decode find second))))
-    (joined-part (length first) (length second) (boundaries_of_units decode find first) (boundaries_of_units decode find second) covers cover)
+-- a part that begins at a boundary
+abbrev pub IsBoundaryPart : (List ℕ → Text) → (List ℕ → List Boundary) → List ℕ → ℕ → List ℕ → Type 0
+IsBoundaryPart decode find units start part =
+    IsPart (places_of_units decode find units) start (places_of_units decode find part) × Contains (places_of_units decode find units) start
 
-line-parts : (decode : List ℕ → Text) (find : List ℕ → List Boundary) (units : List ℕ) (start : ℕ) → BeginsLine units start → PartsBehind (boundaries_of_units decode find) line_feed
-    → IsCover 0 (length units) (boundaries_of_units decode find units)
-    → IsCover 0 (length (take start units)) (boundaries_of_units decode find (take start units))
-    → IsCover 0 (length (drop start units)) (boundaries_of_units decode find (drop start units))
-    → IsPart (places_of_units decode find units) start (places_of_units decode find (drop start units))
-line-parts decode find units start (inl is) parts whole covers cover =
-    subst (λ (place : ℕ). IsPart (places_of_units decode find units) place (places_of_units decode find (drop place units))) (sym is)
-    (whole-part (length units) (boundaries_of_units decode find units) whole)
-line-parts decode find units start (inr (before, second, is, at)) parts whole covers cover =
+split : (decode : List ℕ → Text) (find : List ℕ → List Boundary) (before second : List ℕ) → PartsBehind (boundaries_of_units decode find) line_feed
+    → IsCover 0 (length (before ++ line_feed)) (boundaries_of_units decode find (before ++ line_feed))
+    → IsBoundaryPart decode find ((before ++ line_feed) ++ second) (length (before ++ line_feed)) second
+split decode find before second parts covers =
     let first : List ℕ = before ++ line_feed in
-    let taken : take start units ≡ first = ap (λ (n : ℕ). take n units) at ∙ ap (take (length first)) is ∙ take-append_seam first second in
-    let rest : drop start units ≡ second = ap (λ (n : ℕ). drop n units) at ∙ ap (drop (length first)) is ∙ drop-append_seam first second in
-    let part : IsPart (places_of_units decode find (first ++ second)) (length first) (places_of_units decode find second) =
-    split decode find before second parts
-    (subst (λ (text : List ℕ). IsCover 0 (length text) (boundaries_of_units decode find text)) taken covers)
-    (subst (λ (text : List ℕ). IsCover 0 (length text) (boundaries_of_units decode find text)) rest cover) in
-    subst (λ (text : List ℕ). IsPart (places_of_units decode find units) start (places_of_units decode find text)) (sym rest)
-    (subst (λ (place : ℕ). IsPart (places_of_units decode find units) place (places_of_units decode find second)) (sym at)
-    (subst (λ (text : List ℕ). IsPart (places_of_units decode find text) (length first) (places_of_units decode find second)) (sym is) part))
+    let joined = ap offsets (parts before second) ∙ joined-offsets (length first) (boundaries_of_units decode find first) (drop 1 (boundaries_of_units decode find second)) in (
+      subst (λ (places : List ℕ). IsPart places (length first) (places_of_units decode find second)) (sym joined)
+          (joined-part (length first) (boundaries_of_units decode find first) (boundaries_of_units decode find second) covers),
+      subst (λ (places : List ℕ). Contains places (length first)) (sym joined)
+          (Contains-append_left (places_of_units decode find first) _ _ (cover-end (length first) (boundaries_of_units decode find first) covers)),
+    )
+
+pub start-part : (decode : List ℕ → Text) (find : List ℕ → List Boundary) (units part : List ℕ) (start : ℕ) → start ≡ 0 → part ≡ drop start units
+    → IsCover 0 (length units) (boundaries_of_units decode find units) → IsBoundaryPart decode find units start part
+start-part decode find units part start is is_part whole =
+    let same : part ≡ units = is_part ∙ ap (λ (n : ℕ). drop n units) is in
+    subst₂ (IsBoundaryPart decode find units) (sym is) (sym same)
+    (whole-part (places_of_units decode find units), cover-start (length units) (boundaries_of_units decode find units) whole)
 
 pub line-part : (decode : List ℕ → Text) (find : List ℕ → List Boundary) (units first part : List ℕ) (start : ℕ) → first ≡ take start units → part ≡ drop start units
     → BeginsLine units start → PartsBehind (boundaries_of_units decode find) line_feed → IsCover 0 (length units) (boundaries_of_units decode find units)
-    → IsCover 0 (length first) (boundaries_of_units decode find first) → IsCover 0 (length part) (boundaries_of_units decode find part)
-    → IsPart (places_of_units decode find units) start (places_of_units decode find part)
-line-part decode find units first part start is_first is_part begins parts whole covers cover =
-    subst (λ (text : List ℕ). IsPart (places_of_units decode find units) start (places_of_units decode find text)) (sym is_part)
-    (line-parts decode find units start begins parts whole
-    (subst (λ (text : List ℕ). IsCover 0 (length text) (boundaries_of_units decode find text)) is_first covers)
-    (subst (λ (text : List ℕ). IsCover 0 (length text) (boundaries_of_units decode find text)) is_part cover))
+    → IsCover 0 (length first) (boundaries_of_units decode find first) → IsBoundaryPart decode find units start part
+line-part decode find units first part start is_first is_part (inl is) parts whole covers = start-part decode find units part start is is_part whole
+line-part decode find units first part start is_first is_part (inr (before, second, is, at)) parts whole covers =
+    let front : List ℕ = before ++ line_feed in
+    let taken : first ≡ front = is_first ∙ ap (λ (n : ℕ). take n units) at ∙ ap (take (length front)) is ∙ take-append_seam front second in
+    let rest : part ≡ second = is_part ∙ ap (λ (n : ℕ). drop n units) at ∙ ap (drop (length front)) is ∙ drop-append_seam front second in
+    subst (λ (units : List ℕ). IsBoundaryPart decode find units start part) (sym is)
+    (subst₂ (IsBoundaryPart decode find (front ++ second)) (sym at) (sym rest)
+    (split decode find before second parts (subst (λ (text : List ℕ). IsCover 0 (length text) (boundaries_of_units decode find text)) taken covers)))
 
 behind-feed : (units : List ℕ) (last other : ℕ) → last < length units → get_or units last other ≡ 0x0A → BeginsLine units (last + 1)
 behind-feed units last other within is = inr (
@@ -176,6 +182,13 @@ feeds-utf16 find parts = parts.in_utf16
 
 -- ---- the nearest of a whole text
 
+inner-place : (part : List ℕ) (place : ℕ) → StartsAt 0 part → Contains part place → 0 < place → Contains (drop 1 part) place
+inner-place part place starts has some =
+    elim (has-cases 0 (drop 1 part) place (subst (λ (places : List ℕ). Contains places place) starts has)) [
+      | inl here ↦ absurd (omega (arith, here, some))
+      | inr later ↦ later
+    ]
+
 pub part-above-none : (places part : List ℕ) (start place : ℕ) → IsPart places start part → start ≤ place → IsNearestAbove part (place - start) None
     → IsNearestAbove places place None
 part-above-none places part start place is order none = λ other has.
@@ -184,10 +197,10 @@ part-above-none places part start place is order none = λ other has.
       | inr (inner, has, at) ↦ omega (arith, at, order, none inner has)
     ]
 
-pub part-above-some : (places part : List ℕ) (start place found : ℕ) → IsPart places start part → start ≤ place → IsNearestAbove part (place - start) (Some found)
-    → IsNearestAbove places place (Some (start + found))
-part-above-some places part start place found is order nearest = (
-  is.among found nearest.0,
+pub part-above-some : (places part : List ℕ) (start place found : ℕ) → StartsAt 0 part → IsPart places start part → start ≤ place
+    → IsNearestAbove part (place - start) (Some found) → IsNearestAbove places place (Some (start + found))
+part-above-some places part start place found starts is order nearest = (
+  is.among found (inner-place part found starts nearest.0 (omega (arith, nearest.1))),
   omega (arith, order, nearest.1),
   λ other has above.
       elim (is.all other has) [
@@ -196,18 +209,52 @@ part-above-some places part start place found is order nearest = (
       ],
 )
 
-pub part-below-none : (places part : List ℕ) (start place : ℕ) → IsPart places start part → start < place → IsNearestBelow part (place - start) None
-    → IsNearestBelow places place None
-part-below-none places part start place is order none = absurd (omega (arith, order, none 0 is.starts))
+pub part-below-none : (part : List ℕ) (start below : ℕ) → StartsAt 0 part → start < below → IsNearestBelow part (below - start) None → ⊥
+part-below-none part start below starts order none =
+    omega (arith, order, none 0 (subst (λ (places : List ℕ). Contains places 0) (sym starts) (has-here 0 (drop 1 part))))
 
-pub part-below-some : (places part : List ℕ) (start place found : ℕ) → IsPart places start part → start < place → IsNearestBelow part (place - start) (Some found)
-    → IsNearestBelow places place (Some (start + found))
-part-below-some places part start place found is order nearest = (
-  is.among found nearest.0,
+-- what is found above the start, or at a boundary, is the nearest
+pub part-below-some : (places part : List ℕ) (start below found : ℕ) → StartsAt 0 part → IsPart places start part → start < below
+    → IsNearestBelow part (below - start) (Some found) → (0 < found) ⊎ Contains places start → IsNearestBelow places below (Some (start + found))
+part-below-some places part start below found starts is order nearest told = (
+  elim (inner-or-start found nearest.0) [
+    | inl some ↦ is.among found some
+    | inr none ↦ elim told [
+      | inl some ↦ absurd (omega (arith, none, some))
+      | inr here ↦ subst (Contains places) (omega (arith, none)) here
+    ]
+  ],
   omega (arith, order, nearest.1),
-  λ other has below.
+  λ other has less.
       elim (is.all other has) [
         | inl early ↦ omega (arith, early)
-        | inr (inner, there, at) ↦ omega (arith, at, nearest.2 inner there (omega (arith, at, below, order)))
+        | inr (inner, there, at) ↦ omega (arith, at, nearest.2 inner there (omega (arith, at, less, order)))
       ],
 )
+  where
+    inner-or-start : (found : ℕ) → Contains part found → Contains (drop 1 part) found ⊎ (0 ≡ found)
+    inner-or-start found has =
+        elim (has-cases 0 (drop 1 part) found (subst (λ (places : List ℕ). Contains places found) starts has)) [
+          | inl here ↦ inr here
+          | inr later ↦ inl later
+        ]
+
+-- where nothing is found above the start, the nearest is at the start or below it
+pub part-below-goes : (places part : List ℕ) (start below found : ℕ) (nearest : Option ℕ) → IsPart places start part → start < below
+    → IsNearestBelow part (below - start) (Some found) → found ≡ 0 → IsNearestBelow places (start + 1) nearest → IsNearestBelow places below nearest
+part-below-goes places part start below found nearest is order there none further = on nearest further
+  where
+    up-to-start : (other : ℕ) → Contains places other → other < below → other ≤ start
+    up-to-start other has less =
+        elim (is.all other has) [
+          | inl early ↦ early
+          | inr (inner, inside, at) ↦ omega (arith, at, none, there.2 inner inside (omega (arith, at, less, order)))
+        ]
+
+    on : (nearest : Option ℕ) → IsNearestBelow places (start + 1) nearest → IsNearestBelow places below nearest
+    on None further = λ other has.
+        elim (leb_tells below other) [
+          | inl past ↦ past.1
+          | inr less ↦ absurd (omega (arith, up-to-start other has less.1, further other has))
+        ]
+    on (Some last) further = (further.0, omega (arith, further.1, order), λ other has less. further.2 other has (omega (arith, up-to-start other has less)))

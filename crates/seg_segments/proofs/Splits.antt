@@ -13,8 +13,10 @@ use Rattle.seg_text.specs.Lemmas.Readers.{IsStable, items_by-cons, items_by-nil,
 use Rattle.seg_text.specs.Lemmas.Utf8Stable.{read_utf8-stable}
 use Rattle.seg_text.proofs.Covers.{rises-le}
 use Rattle.seg_text.proofs.Places.{IsRising-drop, in-append, in-shift}
+use Rattle.seg_clusters.proofs.Begins.{last-later}
 use Rattle.seg_clusters.specs.Certain.{AlwaysBreaks, SplitsBetween, without_last}
-use Rattle.seg_clusters.proofs.SplitItems.{later-codes, later-place, later_items, place-front}
+use Rattle.seg_clusters.proofs.SplitItems.{later-codes, later-place, place-front}
+use Rattle.seg_segments.specs.Lemmas.Rests.{items-later}
 use Rattle.seg_segments.specs.TextSegments.{IsPlace}
 use Rattle.seg_segments.specs.NearBoundaries.{SplitsAt, boundaries_of_units, up_to}
 use Rattle.seg_segments.proofs.Certain.{ReadsTwo, certain-here, reads-next}
@@ -98,11 +100,6 @@ in-up-to : (text : Text) → IsRising text.items text.end → (counted : List Bo
 in-up-to text rising [] = tt
 in-up-to text rising (found ∷ counted) =
     (rising-least (drop found.offset text.items) text.end (IsRising-drop text.items text.end found.offset rising), in-up-to text rising counted)
-
-last-later : (found next : Boundary) (counted : List Boundary) → without_last (found ∷ next ∷ counted) ≡ found ∷ without_last (next ∷ counted)
-last-later found next counted =
-    let same : suc (suc (length counted)) - 1 ≡ suc (suc (length counted) - 1) = omega arith in
-    ap (λ (n : ℕ). take n (found ∷ next ∷ counted)) same
 
 -- of boundaries that cover a text, counted, all but the last stand before its last item ends
 before-end : (text : Text) (count : ℕ) → length text.items ≡ suc count → (found : Boundary) (counted : List Boundary)
@@ -207,33 +204,14 @@ module _ (read : Reader ℕ) (stable : IsStable read) (decided : IsDecided read)
         left = sym (ap₂ (λ (at : ℕ) (left : List ℕ). items at left) sum gone) ∙ c.left;
       }
 
-  -- items from a later place on are the same, so much later
-
-  items-within : (most before place : ℕ) (units : List ℕ) → length units ≤ most → items (before + place) units ≡ later_items before (items place units)
-  items-within most before place [] bound = items_by-nil read (before + place) ∙ sym (ap (later_items before) (items_by-nil read place))
-  items-within zero before place (unit ∷ units) bound = absurd (omega arith)
-  items-within (suc most) before place (unit ∷ units) bound =
-      let found = read (unit ∷ units) in
-      let left = drop found.0 (unit ∷ units) in
-      let fewer : length left ≤ most = omega (arith, length-drop found.0 (unit ∷ units), stable.reader.some unit units) in
-      let sum : before + place + found.0 ≡ before + (place + found.0) = omega arith in
-      items_by-cons read stable.reader (before + place) unit units
-      ∙ ap (λ (at : ℕ). (before + place, found.1) ∷ items at left) sum
-      ∙ ap (λ (later : List Item). (before + place, found.1) ∷ later) (items-within most before (place + found.0) left fewer)
-      ∙ sym (ap (later_items before) (items_by-cons read stable.reader place unit units))
-
-  items-later : (before : ℕ) (units : List ℕ) → items before units ≡ later_items before (items 0 units)
-  items-later before units =
-      let same : before ≡ before + 0 = omega arith in
-      ap (λ (place : ℕ). items place units) same ∙ items-within (length units) before 0 units (omega arith)
-
+  -- boundaries of code points stand so much later there
   there-in : (from : ℕ) (units : List ℕ) (counted : List Boundary)
       → map (boundary_in (text_by read from units)) counted ≡ shift_all from (map (boundary_in (text_by read 0 units)) counted)
   there-in from units [] = refl
   there-in from units (b ∷ counted) =
       let end : 0 + length units ≡ length units = omega arith in
       let place : start_of (rest_after b.offset (text_by read from units)) ≡ from + start_of (rest_after b.offset (text_by read 0 units)) =
-      ap (λ (items : List Item). place_of (drop b.offset items) (from + length units)) (items-later from units)
+      ap (λ (items : List Item). place_of (drop b.offset items) (from + length units)) (items-later read stable.reader from units)
       ∙ ap (λ (items : List Item). place_of items (from + length units)) (drop-map (λ (item : Item). (from + item.0, item.1)) b.offset (items 0 units))
       ∙ later-place from (length units) (drop b.offset (items 0 units))
       ∙ ap (λ (end : ℕ). from + place_of (drop b.offset (items 0 units)) end) (sym end) in
@@ -311,7 +289,7 @@ module _ (read : Reader ℕ) (stable : IsStable read) (decided : IsDecided read)
     rest-codes : (more : List ℕ) → code_points (rest more).items ≡ other ∷ code_points (behind more)
     rest-codes more =
         sym (later-codes place (rest more).items)
-        ∙ sym (ap code_points (items-later place (drop place bytes ++ more)))
+        ∙ sym (ap code_points (items-later read stable.reader place (drop place bytes ++ more)))
         ∙ ap code_points (other-cut.goes_on more)
 
     -- the boundaries before the place, counted, and in the text
@@ -478,7 +456,7 @@ module _ (find : List ℕ → List Boundary) (bytes : List ℕ) (place end : ℕ
   unfolding utf8_items
   splits-at first part is_first is_part covers cover = record {
     boundary =
-        certain-here find (utf8 bytes) (with_next place s.other (with_next end s.next s.left)) ((end, s.next) ∷ s.left.items) s.before s.one place s.other s.read refl s.breaks;
+        certain-here (utf8 bytes) (with_next place s.other (with_next end s.next s.left)) ((end, s.next) ∷ s.left.items) s.before s.one place s.other s.read refl find s.breaks;
     parts =
         splits read_utf8 read_utf8-stable read_utf8-decided find bytes s.read.earlier (s.read.place, s.before) (s.read.other_place, s.one)
         place s.other end s.next s.left.items s.read.items s.parts

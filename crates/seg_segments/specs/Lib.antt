@@ -3,6 +3,7 @@ pub mod InLines
 pub mod Kept
 pub mod Abbreviations
 pub mod TextSegments
+pub mod Lemmas
 pub mod SegmentsLeft
 pub mod NearBoundaries
 pub mod SuppressedLeft

@@ -1,9 +1,10 @@
 -- Boundaries near a place of a text.
 use Rattle.std.specs.Prelude.{IsTrue, Bool, ◌≡◌, ℕ, ◌+◌, ◌<◌, ◌≤◌, ◌⊎◌, Option, List, [], ◌∷◌, ◌++◌, Contains, MatchOption, drop, filter, length, nat_le}
 use Rattle.seg_text.specs.declared.boundary.Boundary.{Boundary}
-use Rattle.seg_text.specs.Boundaries.{HasRestart, boundaries_in, offsets, shift_all}
+use Rattle.seg_text.specs.Boundaries.{boundaries_in, offsets, shift_all}
 use Rattle.seg_text.specs.Decoding.{utf8}
 use Rattle.seg_text.specs.Items.{Text}
+use Rattle.seg_segments.specs.declared.cursor.certain.Start.{Start}
 
 -- the boundaries of a text that stands in some units, which the first decodes, where the second finds those of a list of code points; and
 -- their places
@@ -37,17 +38,26 @@ line_feed = 0x0A ∷ []
 abbrev pub BeginsLine : List ℕ → ℕ → Type 0
 BeginsLine units place = (place ≡ 0) ⊎ ((before second : List ℕ) × (units ≡ (before ++ line_feed) ++ second) × (place ≡ length (before ++ line_feed)))
 
--- a search may begin at the place: at the start; where a line begins, if texts may be parted behind line feeds; and at a boundary, where texts may
--- be cut anew from each
-abbrev pub MayBegin : (List ℕ → Text) → (List ℕ → List Boundary) → Bool → List ℕ → ℕ → Type 0
-MayBegin decode find has_parts units place =
-    (place ≡ 0) ⊎ (IsTrue has_parts × BeginsLine units place) ⊎ (HasRestart find × Contains (places_of_units decode find units) place)
-
--- the part of a text from one place on: its places, so much later, are places of the whole text, and all of those above its start
+-- the part of a text from one place on: its places but the first, so much later, are places of the whole text, and all of those above its start
 pub record IsPart (places : List ℕ) (start : ℕ) (part : List ℕ) : Type 0 where
-  pub starts : Contains part 0
-  pub among : (place : ℕ) → Contains part place → Contains places (start + place)
+  pub among : (place : ℕ) → Contains (drop 1 part) place → Contains places (start + place)
   pub all : (place : ℕ) → Contains places place → (place ≤ start) ⊎ ((inner : ℕ) × Contains part inner × (place ≡ start + inner))
+
+-- the first of some places is this one
+abbrev pub StartsAt : ℕ → List ℕ → Type 0
+StartsAt first places = places ≡ first ∷ drop 1 places
+
+-- the code points around a place tell that a search may begin there: what begins there has the places that it has alone, but perhaps for its start,
+-- where it may be known that a boundary stands
+abbrev pub IsTold : (List ℕ → Text) → (List ℕ → List Boundary) → List ℕ → Start → Type 0
+IsTold decode find units start =
+    IsPart (places_of_units decode find units) start.place (places_of_units decode find (drop start.place units))
+    × (IsTrue start.is_boundary → Contains (places_of_units decode find units) start.place)
+
+-- a search may begin at the place: at the start; where a line begins, if texts may be parted behind line feeds; and where the code points around it tell so
+abbrev pub MayBegin : (List ℕ → Text) → (List ℕ → List Boundary) → Bool → List ℕ → Start → Type 0
+MayBegin decode find has_parts units start =
+    (start.place ≡ 0) ⊎ (IsTrue has_parts × BeginsLine units start.place) ⊎ IsTold decode find units start
 
 -- the boundaries up to a place
 abbrev pub up_to : ℕ → List Boundary → List Boundary

@@ -1,8 +1,8 @@
 -- The segments of a text: what stands between neighbouring boundaries.
-use Rattle.std.specs.Prelude.{◌≡◌, ℕ, ◌<◌, List, [], ◌∷◌, All, drop, filter, length, map}
+use Rattle.std.specs.Prelude.{◌≡◌, ℕ, ◌+◌, ◌<◌, List, [], ◌∷◌, All, drop, filter, length, map}
 use Rattle.std.specs.List.{flat_map}
 use Rattle.seg_text.specs.declared.boundary.Boundary.{Boundary}
-use Rattle.seg_text.specs.Items.{Text, rest_after, start_of}
+use Rattle.seg_text.specs.Items.{Item, Text, rest_after, start_of}
 use Rattle.seg_lines.specs.Between.{between}
 use Rattle.seg_words.specs.declared.word.WordType.{WordType}
 use Rattle.seg_words.specs.WordRules.{is_word_like}
@@ -47,6 +47,10 @@ words_of segments = filter (λ (segment : Segment WordType). is_word_like segmen
 pub record IsPlace (text : Text) (place : ℕ) : Type 0 where
   pub before : ℕ
   pub at : place ≡ start_of (rest_after before text)
+
+-- a text so much later
+abbrev pub later_text : ℕ → Text → Text
+later_text before text = record { items = map (λ (item : Item). (before + item.0, item.1)) text.items; end = before + text.end }
 
 -- a text that stands in some units is cut into these segments: joined they are the units, none is empty, and each begins
 -- at a place of the text

@@ -11,11 +11,11 @@
 
 ghost use Rattle.std.specs.Prelude.{◌≡◌, ◌↔◌, ◌<◌, ◌≤◌, ◌+◌, ◌^◌, ℕ, IsTrue, IfSome, List, Contains, length};
 ghost use Rattle.seg_text.specs.declared.boundary.Boundary.{Boundary};
-ghost use Rattle.seg_text.specs.Boundaries.{boundaries_in, HasRestart, IsCover};
+ghost use Rattle.seg_text.specs.Boundaries.{boundaries_in, IsCover};
 ghost use Rattle.seg_text.specs.Decoding.{utf8, utf16};
-ghost use Rattle.seg_clusters.specs.Certain.{AlwaysBreaks, SplitsBetween};
+ghost use Rattle.seg_clusters.specs.Certain.{AlwaysBreaks, BeginsBetween, SplitsBetween};
 ghost use Rattle.seg_clusters.specs.Rules.{PartsBehind};
-ghost use Rattle.seg_segments.specs.NearBoundaries.{IsNearestAbove, IsNearestBelow, IsPart, boundaries_of_units, boundary_places, line_feed, places_of_units};
+ghost use Rattle.seg_segments.specs.NearBoundaries.{IsNearestAbove, IsNearestBelow, IsPart, StartsAt, boundaries_of_units, boundary_places, line_feed, places_of_units};
 
 mod certain;
 mod clusters;
@@ -28,7 +28,7 @@ mod texts;
 mod words;
 
 use crate::segments::{BreakIterator, Source};
-use certain::start_before;
+use certain::{Start, start_before};
 use seg_text::indices::{Utf8CharIndices, Utf16Indices};
 pub use splits::last_split;
 use std::marker::Model;
@@ -45,16 +45,29 @@ pub trait BoundaryFinder: Drop {
         ensures utf8 { IsTrue result → PartsBehind (boundaries_of_units utf8 (find self.now)) line_feed }
         ensures utf16 { IsTrue result → PartsBehind (boundaries_of_units utf16 (find self.now)) line_feed };
 
-    /// Whether places may be certain: then each text may be cut anew from each of its boundaries. If `false`, nothing is said, and
-    /// `always_breaks` isn't asked.
-    fn has_certain_places(&self) -> bool
-        ensures { IsTrue result → HasRestart (find self.now) };
+    /// Whether `always_breaks` may say so of some code points. If `false`, it isn't asked.
+    fn has_certain_places(&self) -> bool;
 
     /// Whether each text that has these three code points one after another has a boundary between the last two, and may be split there. If
     /// `false`, nothing is said.
     fn always_breaks(&self, before: u32, one: u32, other: u32) -> bool
         ensures breaks { IsTrue result → AlwaysBreaks (find self.now) before one other }
-        ensures parts { IsTrue result → SplitsBetween (find self.now) before one other };
+        ensures parts { IsTrue result → SplitsBetween (find self.now) before one other }
+        ensures begins { IsTrue result → BeginsBetween (find self.now) before one other };
+
+    /// Whether `always_begins` may be `true` of some code points. It is asked only where `has_certain_places` is `false`.
+    fn has_beginnings(&self) -> bool {
+        false
+    }
+
+    /// Whether in each text that has these three code points one after another, what begins with the last has the boundaries that it has
+    /// alone, but perhaps for the one at its start. If `false`, nothing is said.
+    fn always_begins(&self, before: u32, one: u32, other: u32) -> bool
+        ensures { IsTrue result → BeginsBetween (find self.now) before one other }
+    {
+        let _ = (before, one, other);
+        false
+    }
 }
 
 /// A segmenter of texts in one encoding: that which the cursor reads.
@@ -111,8 +124,9 @@ pub trait SegmenterOf<I: Source>: BoundaryFinder {
 /// UTF-8, 16-bit units of UTF-16.
 ///
 /// An answer takes no memory. It takes as long as finding the boundaries up to the one above the place, from where a search may begin. That
-/// is the nearest certain place (`has_certain_places`), or what stands behind the last line feed, where the segmenter's rules part texts
-/// there; or else the start of the text.
+/// is the nearest certain place (`has_certain_places`), or, where the segmenter knows none, the nearest place of which `always_begins` says
+/// so; or what stands behind the last line feed, where the segmenter's rules part texts there; or else the start of the text. Whether a
+/// boundary stands at a place of `always_begins`, a search from further back tells, each time at least twice as far.
 #[derive(Drop)]
 pub struct BoundaryCursor<T: CursorText, S: SegmenterOf<T::Source>> {
     segmenter: S,
@@ -166,7 +180,8 @@ impl<T: CursorText, S: SegmenterOf<T::Source>> BoundaryCursor<T, S> {
     {
         segmenter.cover(text);
         BoundaryCursor {
-            has_parts: T::has_parts(&segmenter),
+            // A machine that resets behind line feeds knows that such places are certain.
+            has_parts: !segmenter.has_certain_places() && T::has_parts(&segmenter),
             segmenter,
             text,
         }
@@ -185,8 +200,8 @@ impl<T: CursorText, S: SegmenterOf<T::Source>> BoundaryCursor<T, S> {
         ensures { IsNearestAbove self.now place result }
     {
         let (start, part) = part_at(&self.segmenter, self.text, self.has_parts, place);
-        let found = self.segmenter.nearest_above(part, place - start)?;
-        Some(start + found)
+        let found = self.segmenter.nearest_above(part, place - start.place)?;
+        Some(start.place + found)
     }
 
     /// The nearest boundary below the place, which may be inside a character, or past the end. None at 0.
@@ -196,9 +211,18 @@ impl<T: CursorText, S: SegmenterOf<T::Source>> BoundaryCursor<T, S> {
         if place == 0 {
             return None;
         }
-        let (start, part) = part_at(&self.segmenter, self.text, self.has_parts, place - 1);
-        let found = self.segmenter.nearest_below(part, place - start)?;
-        Some(start + found)
+        let mut below = place;
+        let mut from = place - 1;
+        'starts: loop {
+            let (start, part) = part_at(&self.segmenter, self.text, self.has_parts, from);
+            let found = self.segmenter.nearest_below(part, below - start.place)?;
+            if found > 0 || start.is_boundary || start.place == 0 {
+                return Some(start.place + found);
+            }
+            // No boundary stands above the start. Whether one stands at it, an earlier start tells.
+            below = start.place + 1;
+            from = start.place.saturating_sub(place - start.place);
+        }
     }
 }
 
@@ -208,15 +232,17 @@ fn part_at<T: CursorText, S: SegmenterOf<T::Source>>(
     text: T,
     has_parts: bool,
     place: usize,
-) -> (usize, T)
+) -> (Start, T)
     requires cover { IsCover 0 (length (T.units text)) (boundaries_of_units T.Source.decode (S.find segmenter.now) (T.units text)) }
     requires parts { IsTrue has_parts → PartsBehind (boundaries_of_units T.Source.decode (S.find segmenter.now)) line_feed }
-    ensures order { result.0 ≤ place }
-    ensures fits { result.0 + length (T.units result.1) < 2 ^ 64 }
-    ensures part { IsPart (places_of_units T.Source.decode (S.find segmenter.now) (T.units text)) result.0 (places_of_units T.Source.decode (S.find segmenter.now) (T.units result.1)) }
+    ensures order { result.0.place ≤ place }
+    ensures fits { result.0.place + length (T.units result.1) < 2 ^ 64 }
+    ensures starts { StartsAt 0 (places_of_units T.Source.decode (S.find segmenter.now) (T.units result.1)) }
+    ensures part { IsPart (places_of_units T.Source.decode (S.find segmenter.now) (T.units text)) result.0.place (places_of_units T.Source.decode (S.find segmenter.now) (T.units result.1)) }
+    ensures boundary { IsTrue result.0.is_boundary → Contains (places_of_units T.Source.decode (S.find segmenter.now) (T.units text)) result.0.place }
 {
     let start = start_before(segmenter, text, has_parts, place.min(text.len()));
-    let (before, part) = text.parts_at(start);
+    let (before, part) = text.parts_at(start.place);
     segmenter.cover(before);
     segmenter.cover(part);
     (start, part)

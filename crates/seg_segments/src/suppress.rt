@@ -19,7 +19,7 @@ ghost use Rattle.seg_segments.specs.Abbreviations.{abbreviations_of};
 ghost use Rattle.seg_segments.specs.Suppression.{without_abbreviated};
 
 mod abbreviations;
-mod characters;
+pub(crate) mod characters;
 mod kept;
 pub mod laws;
 mod segmenter;

@@ -1,28 +1,23 @@
 -- Laws of the boundaries of words, by either rules.
-use Rattle.std.proofs.Common.{◌≡◌, ℕ, ◌+◌, List, ◌∷◌, ◌++◌, Contains, drop, length, refl, sym, subst, ap, ◌∙◌}
+use Rattle.std.proofs.Common.{◌≡◌, ℕ, List, ◌∷◌, drop, ap}
 use Rattle.std.specs.Prelude.{Option}
 use Rattle.seg_text.specs.declared.boundary.Boundary.{Boundary}
-use Rattle.seg_text.specs.Boundaries.{RestartsIn, offsets, start, Stretch, HasOneAnswer, HasProgress, list_boundaries, Cuts}
+use Rattle.seg_text.specs.Boundaries.{RestartsIn, start, Stretch, HasOneAnswer, HasProgress, list_boundaries, Cuts}
 use Rattle.seg_text.proofs.Restarts.{restarts, restarts-as}
 use Rattle.seg_text.proofs.Stretches.{one-answer}
 use Rattle.seg_data.specs.Table.{Table}
-use Rattle.seg_machine.specs.Machine.{Machine}
-use Rattle.seg_machine.specs.MachineFaults.{IsChecked}
-use Rattle.seg_machine.specs.Pick.{machine_boundaries, machine_stretch}
+use Rattle.seg_machine.specs.Pick.{machine_stretch}
 use Rattle.seg_machine.proofs.Segmentations.{machine-going, machine-alone}
 use Rattle.seg_pairs.specs.PairTable.{PairTable}
 use Rattle.seg_pairs.specs.Breaks.{table_stretch, HasComplexElement, complex_stretch}
 use Rattle.seg_pairs.proofs.ComplexStretches.{complex-going, none-after, without-complex}
 use Rattle.seg_pairs.proofs.Engine.{table-going, table-alone}
-use Rattle.seg_clusters.specs.Certain.{AlwaysBreaks, AreCertain, IsByMachine, SplitsBetween}
 use Rattle.seg_clusters.specs.Rules.{Rules}
 use Rattle.seg_clusters.specs.Rules.Rules.{ByTable, ByMachine}
-use Rattle.seg_data.specs.ScriptWords.{ScriptWords, AreSameWords, no_words}
+use Rattle.seg_data.specs.ScriptWords.{ScriptWords, AreSameWords}
 use Rattle.seg_clusters.specs.Payloads.{Payloads, run_cuts_by}
-use Rattle.seg_clusters.proofs.Certain.{certain-by}
-use Rattle.seg_clusters.proofs.CertainParts.{splits-as, splits-by}
 use Rattle.seg_clusters.proofs.EqualWords.{same-run-cuts}
-use Rattle.seg_words.specs.WordRules.{HasCertainWords, HasNoRunOfWords, WordRules, WordsAreCertain, first_word_stretch, span_stretch, stretch_by, with_words, word_boundaries_by}
+use Rattle.seg_words.specs.WordRules.{HasNoRunOfWords, WordRules, first_word_stretch, span_stretch, stretch_by, with_words, word_boundaries_by}
 use Rattle.seg_words.proofs.Spans.{spans-going, without-words}
 use Rattle.seg_words.proofs.EqualSpans.{same-spans}
 
@@ -61,35 +56,3 @@ same-by (ByMachine m) payloads others same =
 pub equal-words : (words : WordRules) (others : ScriptWords) → AreSameWords words.payloads.words others
     → word_boundaries_by (with_words words others) ≡ word_boundaries_by words
 equal-words words others same = same-by words.rules words.payloads others same
-
--- certain places
-
-module _ (words : WordRules) (m : Machine) (is : words.rules ≡ ByMachine m) (none : words.payloads.words ≡ no_words) where
-  by-machine : (code_points : List ℕ) → word_boundaries_by words code_points ≡ machine_boundaries m code_points
-  by-machine code_points = ap (λ (rules : Rules). list_boundaries (stretch_by rules words.payloads) code_points) is ∙ without-words m words.payloads none code_points
-
-  breaks : IsChecked m → (before one other : ℕ) → AreCertain words.rules before one other → AlwaysBreaks (word_boundaries_by words) before one other
-  breaks checked before one other certain earlier later =
-      subst (λ (found : List Boundary). Contains (offsets found) (length earlier + 2)) (sym (by-machine (earlier ++ before ∷ one ∷ other ∷ later)))
-      (certain-by (ByMachine m) m refl checked before one other (subst (λ (rules : Rules). AreCertain rules before one other) is certain) earlier later)
-
-  splits : IsChecked m → (before one other : ℕ) → AreCertain words.rules before one other → SplitsBetween (word_boundaries_by words) before one other
-  splits checked before one other certain =
-      splits-as (word_boundaries_by words) (machine_boundaries m) by-machine before one other
-      (splits-by (ByMachine m) m refl checked before one other (subst (λ (rules : Rules). AreCertain rules before one other) is certain))
-
-pub words-break : (words : WordRules) (m : Machine) → words.rules ≡ ByMachine m → IsChecked m → (before one other : ℕ)
-    → WordsAreCertain words before one other → AlwaysBreaks (word_boundaries_by words) before one other
-words-break words m is checked before one other certain = breaks words m is certain.1 checked before one other certain.0
-
-pub words-split : (words : WordRules) (m : Machine) → words.rules ≡ ByMachine m → IsChecked m → (before one other : ℕ)
-    → WordsAreCertain words before one other → SplitsBetween (word_boundaries_by words) before one other
-words-split words m is checked before one other certain = splits words m is certain.1 checked before one other certain.0
-
-no-run-by : (rules : Rules) (words : ScriptWords) → IsByMachine rules → words ≡ no_words → (code_points : List ℕ) → HasNoRunOfWords rules words code_points
-no-run-by (ByTable t overriding) words by none code_points = absurd by
-no-run-by (ByMachine m) words by none code_points = none
-
--- where places may be certain, no script has words
-pub no-run : (words : WordRules) → HasCertainWords words → (code_points : List ℕ) → HasNoRunOfWords words.rules words.payloads.words code_points
-no-run words certain code_points = no-run-by words.rules words.payloads.words certain.0 certain.1 code_points

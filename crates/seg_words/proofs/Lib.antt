@@ -7,3 +7,4 @@ pub mod EqualSpans
 pub mod ByRules
 pub mod Memos
 pub mod SplitWords
+pub mod CertainWords

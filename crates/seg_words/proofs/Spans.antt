@@ -52,7 +52,7 @@ module _ (m : Machine) (payloads : Payloads) (checked : IsChecked m) (cover : Co
   alone-rises None script first rest rises = (covers-list (machine_stretch m) (machine-within m checked) (first ∷ rest)).1
   alone-rises (Some words) script first rest rises = other-status letters _ 0 _ rises
 
-  taken-rises : (script : ComplexScript) (n first : ℕ) (rest : List ℕ) → 0 < n → n ≤ length (first ∷ rest)
+  pub taken-rises : (script : ComplexScript) (n first : ℕ) (rest : List ℕ) → 0 < n → n ≤ length (first ∷ rest)
       → RisesTo 0 (span_boundaries m clusters (words_in payloads.words script) (take n (first ∷ rest))) n
   taken-rises script zero first rest some inside = absurd (omega arith)
   taken-rises script (suc n) first rest some inside =

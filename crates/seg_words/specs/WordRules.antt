@@ -1,5 +1,5 @@
 -- The boundaries of words, by a pair table or by a state machine, and their types.
-use Rattle.std.specs.Prelude.{◌≡◌, ℕ, zero, suc, Bool, true, false, Option, None, Some, List, take}
+use Rattle.std.specs.Prelude.{◌≡◌, ◌⊎◌, ℕ, zero, suc, Bool, true, false, Option, None, Some, List, take}
 use Rattle.seg_text.specs.declared.boundary.Boundary.{Boundary}
 use Rattle.seg_text.specs.Items.{Text}
 use Rattle.seg_text.specs.Boundaries.{boundaries_in, with_status, Stretch, later_boundaries, list_boundaries}
@@ -15,7 +15,7 @@ use Rattle.seg_clusters.specs.Rules.{Rules, boundaries_by, ResetsAfter}
 use Rattle.seg_clusters.specs.Rules.Rules.{ByTable, ByMachine}
 use Rattle.seg_clusters.specs.DictionaryCuts.{Clusters, dictionary_cuts}
 use Rattle.seg_clusters.specs.Payloads.{Payloads, run_cuts_by}
-use Rattle.seg_clusters.specs.Spans.{span_length, span_words, IsOutsideRuns}
+use Rattle.seg_clusters.specs.Spans.{span_length, span_words, IsOutsideRuns, IsSpanEdge}
 use Rattle.seg_words.specs.declared.word.WordType.{WordType}
 use Rattle.seg_words.specs.declared.word.WordType.TheVariants.{None as NoWord, Number, Letter}
 
@@ -106,9 +106,16 @@ WordsResetAfter words code_point = WordsResetWith words.rules words.payloads.wor
 
 -- Certain places: between the last two of three code points a boundary of words stands, whatever stands around.
 
--- a machine finds words, and no run is cut, as no script has words: of others no place is known to be certain
+-- a machine finds words: of others no place is known to be certain
 abbrev pub HasCertainWords : WordRules → Type 0
-HasCertainWords words = IsByMachine words.rules × (words.payloads.words ≡ no_words)
+HasCertainWords words = IsByMachine words.rules
+
+-- another span begins between the last two of three code points, or all three stand between runs, where no scan passes
+abbrev pub WordsAreCertainWith : Rules → ScriptWords → ℕ → ℕ → ℕ → Type 0
+WordsAreCertainWith (ByTable t overriding) words before one other = ⊥
+WordsAreCertainWith (ByMachine m) words before one other =
+    IsSpanEdge m words one other
+    ⊎ (IsOutsideRuns m words before × IsOutsideRuns m words one × IsOutsideRuns m words other × AreCertain (ByMachine m) before one other)
 
 abbrev pub WordsAreCertain : WordRules → ℕ → ℕ → ℕ → Type 0
-WordsAreCertain words before one other = AreCertain words.rules before one other × (words.payloads.words ≡ no_words)
+WordsAreCertain words before one other = WordsAreCertainWith words.rules words.payloads.words before one other

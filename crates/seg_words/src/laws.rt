@@ -6,7 +6,7 @@ ghost use Rattle.seg_text.specs.Boundaries.{AreSameCounted, RestartsIn, HasOneAn
 ghost use Rattle.seg_text.specs.Decoding.{utf8, utf16};
 ghost use Rattle.seg_text.specs.Items.{code_points};
 ghost use Rattle.seg_data.specs.ScriptWords.{ScriptWords, AreSameWords};
-ghost use Rattle.seg_clusters.specs.Certain.{AlwaysBreaks, SplitsBetween};
+ghost use Rattle.seg_clusters.specs.Certain.{AlwaysBreaks, BeginsBetween, SplitsBetween};
 ghost use Rattle.seg_clusters.specs.Rules.{PartsTexts};
 ghost use Rattle.seg_words.specs.WordRules.{WordsAreCertain, WordsResetAfter, HasNoRunOfWords, WordRules, first_word_stretch, with_words, word_boundaries_by, word_boundaries_of};
 ghost use Rattle.seg_words.specs.Words.{word_rules, words_left};
@@ -74,14 +74,17 @@ pub fn parts_behind_resets(segmenter: WordSegmenterBorrowed<'_>, code_point: cha
 
 /// Law: each list that has three code points one after another, of which `always_breaks` says so, has a boundary between the last two,
 /// whatever stands before and behind them. The list may be split there: it has the boundaries and statuses of what reaches up to the last of the
-/// three, without its end, and then those of what begins with it.
+/// three, without its end, and then those of what begins with it. So above the place it has those of what begins there.
 pub fn certain_places(segmenter: WordSegmenterBorrowed<'_>, before: u32, one: u32, other: u32)
     ensures breaks { WordsAreCertain (word_rules segmenter.entry) before one other
         → AlwaysBreaks (word_boundaries_by (word_rules segmenter.entry)) before one other }
     ensures parts { WordsAreCertain (word_rules segmenter.entry) before one other
         → SplitsBetween (word_boundaries_by (word_rules segmenter.entry)) before one other }
+    ensures begins { WordsAreCertain (word_rules segmenter.entry) before one other
+        → BeginsBetween (word_boundaries_by (word_rules segmenter.entry)) before one other }
 {
     let _ = (before, one, other);
+    segmenter.payloads.facts();
     if let Engine::Neo(machine) = segmenter.engine {
         machine.facts();
     }

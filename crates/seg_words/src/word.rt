@@ -20,7 +20,7 @@ use crate::data::{check_machine, word_pairs};
 use seg_clusters::complex::ComplexPayloadsBorrowed;
 use seg_clusters::engine::{Engine, OwnedEngine};
 use seg_clusters::grapheme::{GraphemeClusterSegmenter, GraphemeClusterSegmenterBorrowed};
-use seg_clusters::spans::is_outside_runs;
+use seg_clusters::spans::{begins_span, is_outside_runs};
 use seg_data::dictionaries::{Dictionaries, DictionariesBorrowed};
 use seg_data::provider::{DataError, LanguageIdentifier};
 use seg_machine::provider::SegmenterStateMachine;
@@ -513,20 +513,31 @@ impl<'data> WordSegmenterBorrowed<'data> {
         }
     }
 
-    /// Whether places may be certain (`always_breaks`), as by a machine, where no script has a dictionary.
+    /// Whether places may be certain (`always_breaks`), as by a machine.
     pub fn has_certain_places(self) -> bool
         ensures { IsTrue result ↔ HasCertainWords (word_rules self.entry) }
     {
-        self.engine.has_certain_places() && self.payloads.dictionaries.is_empty()
+        self.engine.has_certain_places()
     }
 
     /// Whether each text that has these three code points one after another has a boundary between the last two
-    /// (`laws::certain_places`), since no scan of the machine passes there. It is `false` by a pair table, and where some script has a
-    /// dictionary. Takes no memory; asks the machine for at most three steps a state and three more.
+    /// (`laws::certain_places`). So it is by a machine where another span begins there, as where a run begins or ends whose script has a
+    /// dictionary here; or where no scan passes there and none of the three stands in such a run. By a pair table it is `false`. Takes no
+    /// memory.
     pub fn always_breaks(self, before: u32, one: u32, other: u32) -> bool
         ensures { IsTrue result ↔ WordsAreCertain (word_rules self.entry) before one other }
     {
-        self.engine.always_breaks(before, one, other) && self.payloads.dictionaries.is_empty()
+        match self.engine {
+            Engine::Classic(_) => false,
+            Engine::Neo(machine) => {
+                let dictionaries = self.payloads.dictionaries;
+                begins_span(machine, dictionaries, one, other)
+                    || (self.engine.always_breaks(before, one, other)
+                        && is_outside_runs(machine, dictionaries, before)
+                        && is_outside_runs(machine, dictionaries, one)
+                        && is_outside_runs(machine, dictionaries, other))
+            }
+        }
     }
 
     /// The boundaries of the words of what a cursor has still to read, each with its type, as places in the text's units. Takes no memory.

@@ -2,7 +2,7 @@
 
 ghost use Rattle.std.specs.Prelude.{ℕ, List, length};
 ghost use Rattle.seg_text.specs.Boundaries.{HasRestart, IsCover, HasOneAnswer};
-ghost use Rattle.seg_clusters.specs.Certain.{AlwaysBreaks, AreCertain, SplitsBetween};
+ghost use Rattle.seg_clusters.specs.Certain.{AlwaysBreaks, AreCertain, BeginsBetween, SplitsBetween};
 ghost use Rattle.seg_clusters.specs.Rules.{rules_of, PartsTexts, ResetsAfter, boundaries_by, first_stretch};
 
 use crate::engine::Engine;
@@ -47,12 +47,14 @@ pub fn parts_behind_resets(engine: Engine<'_>, code_point: char)
 
 /// Law: each list that has three code points one after another, of which `always_breaks` says so, has a boundary between the last two,
 /// whatever stands before and behind them. The list may be split there: it has the boundaries and statuses of what reaches up to the last of the
-/// three, without its end, and then those of what begins with it.
+/// three, without its end, and then those of what begins with it. So above the place it has those of what begins there.
 pub fn certain_places(engine: Engine<'_>, before: u32, one: u32, other: u32)
     ensures breaks { AreCertain (rules_of engine.entry) before one other → AlwaysBreaks (boundaries_by (rules_of engine.entry)) before one other }
     ensures parts { AreCertain (rules_of engine.entry) before one other → SplitsBetween (boundaries_by (rules_of engine.entry)) before one other }
+    ensures begins { AreCertain (rules_of engine.entry) before one other → BeginsBetween (boundaries_by (rules_of engine.entry)) before one other }
 {
     let _ = (before, one, other);
+    cover(engine);
     if let Engine::Neo(machine) = engine {
         machine.facts();
     }

@@ -4,7 +4,7 @@ ghost use Rattle.std.specs.Prelude.{◌≡◌, ℕ, List, length};
 ghost use Rattle.seg_text.specs.Boundaries.{AreSameCounted, HasRestart, IsCover, HasOneAnswer};
 ghost use Rattle.seg_text.specs.Decoding.{utf8, utf16};
 ghost use Rattle.seg_text.specs.Items.{code_points};
-ghost use Rattle.seg_clusters.specs.Certain.{AlwaysBreaks, AreCertain, SplitsBetween};
+ghost use Rattle.seg_clusters.specs.Certain.{AlwaysBreaks, AreCertain, BeginsBetween, SplitsBetween};
 ghost use Rattle.seg_clusters.specs.Rules.{PartsTexts, ResetsAfter, boundaries_by, boundaries_of, first_stretch};
 ghost use Rattle.seg_clusters.specs.Clusters.{sentence_rules, sentences_left};
 
@@ -65,10 +65,11 @@ pub fn parts_behind_resets(segmenter: SentenceSegmenterBorrowed<'_>, code_point:
 
 /// Law: each list that has three code points one after another, of which `always_breaks` says so, has a boundary between the last two,
 /// whatever stands before and behind them. The list may be split there: it has the boundaries and statuses of what reaches up to the last of the
-/// three, without its end, and then those of what begins with it.
+/// three, without its end, and then those of what begins with it. So above the place it has those of what begins there.
 pub fn certain_places(segmenter: SentenceSegmenterBorrowed<'_>, before: u32, one: u32, other: u32)
     ensures breaks { AreCertain (sentence_rules segmenter.entry) before one other → AlwaysBreaks (boundaries_by (sentence_rules segmenter.entry)) before one other }
     ensures parts { AreCertain (sentence_rules segmenter.entry) before one other → SplitsBetween (boundaries_by (sentence_rules segmenter.entry)) before one other }
+    ensures begins { AreCertain (sentence_rules segmenter.entry) before one other → BeginsBetween (boundaries_by (sentence_rules segmenter.entry)) before one other }
 {
     engine::certain_places(segmenter.engine, before, one, other);
 }

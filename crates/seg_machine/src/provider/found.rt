@@ -65,7 +65,7 @@ fn has_no_mark(marks: &Marks, kept: u8) -> bool
 
 /// States, each once, in the order in which they came.
 #[derive(Drop)]
-pub(super) struct StateQueue {
+pub(crate) struct StateQueue {
     known: [bool; STATES],
     states: ArrayVec<State, STATES>,
 }
@@ -83,7 +83,7 @@ impl Model for StateQueue {
 
 impl StateQueue {
     /// No states.
-    pub(super) fn new() -> Self
+    pub(crate) fn new() -> Self
         ensures { result ≡ [] }
     {
         let known = [false; STATES];
@@ -94,7 +94,7 @@ impl StateQueue {
     }
 
     /// How many states there are.
-    pub(super) fn len(&self) -> usize
+    pub(crate) fn len(&self) -> usize
         ensures value { result ≡ length self.now }
         ensures few { result ≤ 255 }
     {
@@ -102,7 +102,7 @@ impl StateQueue {
     }
 
     /// The state at a place.
-    pub(super) fn state(&self, place: usize) -> State
+    pub(crate) fn state(&self, place: usize) -> State
         requires { place < length self.now }
         ensures { result ≡ slice_index_or self.now place 0 }
     {
@@ -110,7 +110,7 @@ impl StateQueue {
     }
 
     /// Puts a state in the queue, unless it is there.
-    fn push(&mut self, state: State)
+    pub(crate) fn push(&mut self, state: State)
         requires { state < 255 }
         ensures listed { Contains self.new state }
         ensures more { (self.new ≡ self.old) ⊎ (self.new ≡ self.old ++ state ∷ []) }

@@ -1,8 +1,8 @@
-//! Where a cursor may begin to search a text: at a place that is certain, or where a line begins.
+//! Where a cursor may begin to search a text: where a line begins, or where the code points around a place tell so.
 
-ghost use Rattle.std.specs.Prelude.{◌≡◌, ◌⊎◌, ◌≤◌, IfSome, Contains, length};
-ghost use Rattle.seg_text.specs.Boundaries.{HasRestart};
-ghost use Rattle.seg_segments.specs.NearBoundaries.{MayBegin, places_of_units};
+ghost use Rattle.std.specs.Prelude.{◌≡◌, ◌⊎◌, ◌≤◌, IfSome, IsTrue, length};
+ghost use Rattle.seg_clusters.specs.Certain.{AlwaysBreaks, BeginsBetween};
+ghost use Rattle.seg_segments.specs.NearBoundaries.{IsTold, MayBegin};
 ghost use Rattle.seg_segments.specs.TextSegments.{IsPlace};
 
 use crate::cursor::line_starts::line_start;
@@ -13,26 +13,38 @@ use seg_text::cursor::Cursor;
 // How many units before the place are looked at first. Each time none is found there, twice as many are.
 pub(super) const NEAR: usize = 64;
 
-/// A place up to another one where the text may be cut: not far before it, if one is known there, and else the start.
+/// Where a search begins.
+#[derive(Clone, Copy)]
+pub(super) struct Start {
+    /// The place.
+    pub(super) place: usize,
+    /// Whether it is known that a boundary stands there.
+    pub(super) is_boundary: bool,
+}
+
+/// A place up to another one where a search may begin: not far before it, if one is known there, and else the start.
 pub(super) fn start_before<T: CursorText, S: BoundaryFinder>(
     segmenter: &S,
     text: T,
     has_parts: bool,
     place: usize,
-) -> usize
+) -> Start
     requires { place ≤ length (T.units text) }
-    ensures order { result ≤ place }
+    ensures order { result.place ≤ place }
     ensures begins { MayBegin T.Source.decode (S.find segmenter.now) has_parts (T.units text) result }
 {
-    let has_certain = segmenter.has_certain_places();
+    let knows_some = has_parts || segmenter.has_certain_places() || segmenter.has_beginnings();
     let mut least = place.saturating_sub(NEAR);
-    while least > 0 && (has_parts || has_certain) {
+    while least > 0 && knows_some {
         if let Some(start) = start_in(segmenter, text, has_parts, least, place) {
             return start;
         }
         least = least.saturating_sub(place - least);
     }
-    start_in(segmenter, text, has_parts, 0, place).unwrap_or(0)
+    start_in(segmenter, text, has_parts, 0, place).unwrap_or(Start {
+        place: 0,
+        is_boundary: true,
+    })
 }
 
 /// Such a place from another one on, if one is known there.
@@ -42,9 +54,9 @@ fn start_in<T: CursorText, S: BoundaryFinder>(
     has_parts: bool,
     least: usize,
     place: usize,
-) -> Option<usize>
+) -> Option<Start>
     requires { place ≤ length (T.units text) }
-    ensures order { IfSome result (λ start. start ≤ place) }
+    ensures order { IfSome result (λ start. start.place ≤ place) }
     ensures begins { IfSome result (MayBegin T.Source.decode (S.find segmenter.now) has_parts (T.units text)) }
 {
     let line = if has_parts {
@@ -53,7 +65,14 @@ fn start_in<T: CursorText, S: BoundaryFinder>(
         None
     };
     let from = item_start(text, line.unwrap_or(least).min(place));
-    certain_place(segmenter, text, from, place).or(line)
+    if let Some(start) = told_start(segmenter, text, from, place) {
+        return Some(start);
+    }
+    let place = line?;
+    Some(Start {
+        place,
+        is_boundary: true,
+    })
 }
 
 /// The place of an item at or before another place: the nearest that its first unit tells, or the start.
@@ -68,19 +87,19 @@ pub(super) fn item_start<T: CursorText>(text: T, place: usize) -> usize
     start
 }
 
-/// The last certain place up to another place, as the items tell that stand from one of them on, if there is one.
-fn certain_place<T: CursorText, S: BoundaryFinder>(
+/// The last place up to another one where a search may begin, as the items tell that stand from one of them on, if there is one.
+fn told_start<T: CursorText, S: BoundaryFinder>(
     segmenter: &S,
     text: T,
     from: usize,
     place: usize,
-) -> Option<usize>
+) -> Option<Start>
     requires { (from ≡ 0) ⊎ IsPlace (T.Source.decode (T.units text)) from }
-    ensures order { IfSome result (λ found. found ≤ place) }
-    ensures restart { IfSome result (λ _. HasRestart (S.find segmenter.now)) }
-    ensures certain { IfSome result (Contains (places_of_units T.Source.decode (S.find segmenter.now) (T.units text))) }
+    ensures order { IfSome result (λ start. start.place ≤ place) }
+    ensures told { IfSome result (IsTold T.Source.decode (S.find segmenter.now) (T.units text)) }
 {
-    if !segmenter.has_certain_places() {
+    let is_boundary = segmenter.has_certain_places();
+    if !is_boundary && !segmenter.has_beginnings() {
         return None;
     }
     let mut items = T::Source::of(text);
@@ -92,11 +111,32 @@ fn certain_place<T: CursorText, S: BoundaryFinder>(
         if at > place {
             break;
         }
-        if segmenter.always_breaks(before, one, other) {
-            found = Some(at);
+        if may_begin(segmenter, is_boundary, before, one, other) {
+            found = Some(Start {
+                place: at,
+                is_boundary,
+            });
         }
         before = one;
         one = other;
     }
     found
+}
+
+/// Whether a search may begin with the last of three code points: at a boundary, or where it isn't said whether one stands there.
+fn may_begin<S: BoundaryFinder>(
+    segmenter: &S,
+    is_boundary: bool,
+    before: u32,
+    one: u32,
+    other: u32,
+) -> bool
+    ensures breaks { IsTrue is_boundary → IsTrue result → AlwaysBreaks (S.find segmenter.now) before one other }
+    ensures begins { IsTrue result → BeginsBetween (S.find segmenter.now) before one other }
+{
+    if is_boundary {
+        segmenter.always_breaks(before, one, other)
+    } else {
+        segmenter.always_begins(before, one, other)
+    }
 }

@@ -6,7 +6,7 @@ ghost use Rattle.seg_clusters.specs.Rules.{boundaries_by};
 use crate::cursor::{BoundaryFinder, SegmenterOf};
 use crate::segments::Source;
 use seg_clusters::grapheme::{GraphemeClusterBreakIterator, GraphemeClusterSegmenterBorrowed};
-use seg_clusters::laws::grapheme::{certain_places, parts_behind_resets, restart};
+use seg_clusters::laws::grapheme::{certain_places, parts_behind_resets};
 
 impl<'data> BoundaryFinder for GraphemeClusterSegmenterBorrowed<'data> {
     ghost find = { λ segmenter. boundaries_by (cluster_rules segmenter) };
@@ -17,7 +17,6 @@ impl<'data> BoundaryFinder for GraphemeClusterSegmenterBorrowed<'data> {
     }
 
     fn has_certain_places(&self) -> bool {
-        restart(*self);
         (*self).has_certain_places()
     }
 

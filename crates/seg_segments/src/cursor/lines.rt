@@ -5,7 +5,7 @@ ghost use Rattle.seg_lines.specs.Lines.{line_rules};
 
 use crate::cursor::{BoundaryFinder, SegmenterOf};
 use crate::segments::Source;
-use seg_lines::laws::{certain_places, parts_behind_resets, restart};
+use seg_lines::laws::{certain_places, parts_behind_resets};
 use seg_lines::line::{LineBreakIterator, LineSegmenterBorrowed};
 
 impl<'data> BoundaryFinder for LineSegmenterBorrowed<'data> {
@@ -17,7 +17,6 @@ impl<'data> BoundaryFinder for LineSegmenterBorrowed<'data> {
     }
 
     fn has_certain_places(&self) -> bool {
-        restart(*self);
         (*self).has_certain_places()
     }
 

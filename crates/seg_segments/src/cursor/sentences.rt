@@ -5,7 +5,7 @@ ghost use Rattle.seg_clusters.specs.Rules.{boundaries_by};
 
 use crate::cursor::{BoundaryFinder, SegmenterOf};
 use crate::segments::Source;
-use seg_clusters::laws::sentence::{certain_places, parts_behind_resets, restart};
+use seg_clusters::laws::sentence::{certain_places, parts_behind_resets};
 use seg_clusters::sentence::{SentenceBreakIterator, SentenceSegmenterBorrowed};
 
 impl<'data> BoundaryFinder for SentenceSegmenterBorrowed<'data> {
@@ -17,7 +17,6 @@ impl<'data> BoundaryFinder for SentenceSegmenterBorrowed<'data> {
     }
 
     fn has_certain_places(&self) -> bool {
-        restart(*self);
         (*self).has_certain_places()
     }
 

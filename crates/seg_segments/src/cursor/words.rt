@@ -5,7 +5,7 @@ ghost use Rattle.seg_words.specs.WordRules.{word_boundaries_by};
 
 use crate::cursor::{BoundaryFinder, SegmenterOf};
 use crate::segments::Source;
-use seg_words::laws::{certain_places, parts_behind_resets, restart};
+use seg_words::laws::{certain_places, parts_behind_resets};
 use seg_words::word::{WordBreakIterator, WordSegmenterBorrowed};
 
 impl<'data> BoundaryFinder for WordSegmenterBorrowed<'data> {
@@ -17,7 +17,6 @@ impl<'data> BoundaryFinder for WordSegmenterBorrowed<'data> {
     }
 
     fn has_certain_places(&self) -> bool {
-        restart(*self);
         (*self).has_certain_places()
     }
 

@@ -1,12 +1,10 @@
 //! The cursors at whose start a text is had back in its units, one for each encoding.
 
-ghost use Rattle.std.specs.Prelude.{◌≡◌, ℕ, List, Contains, length};
-ghost use Rattle.seg_text.specs.declared.boundary.Boundary.{Boundary};
-ghost use Rattle.seg_text.specs.Boundaries.{HasRestart, boundaries_in, offsets};
-ghost use Rattle.seg_text.proofs.GoingOn.{GoesOn, behind-latin1, behind-utf16, behind-utf8};
+ghost use Rattle.std.specs.Prelude.{◌≡◌, ℕ, List, drop, length};
 ghost use Rattle.seg_text.specs.Decoding.{latin1, utf8, utf16};
-ghost use Rattle.seg_text.specs.Items.{Text, start_of};
-ghost use Rattle.seg_segments.specs.TextSegments.{IsPlace};
+ghost use Rattle.seg_text.specs.Items.{Text, rest_after, start_of};
+ghost use Rattle.seg_segments.specs.Lemmas.Rests.{rests-latin1, rests-utf16, rests-utf8};
+ghost use Rattle.seg_segments.specs.TextSegments.{IsPlace, later_text};
 
 use crate::segments::Units;
 use seg_text::cursor::Cursor;
@@ -37,9 +35,9 @@ pub trait Source: Cursor {
     /// Law: a text may be cut at the places of its items.
     ghost places: { (text : Self.Units) (place : ℕ) → IsPlace (decode (Self.Units.units text)) place → Self.Units.MayCut text place };
 
-    /// Law: where lists may be cut anew from each of their boundaries, the places of a text behind one of them are those of the rest.
-    ghost goes_on: { (find : List ℕ → List Boundary) → HasRestart find → (whole : List ℕ) (from : ℕ)
-        → Contains (offsets (boundaries_in find (decode whole))) from → GoesOn find decode whole from };
+    /// Law: what stands from an item on is what the units from there on are alone, so much later.
+    ghost rests: { (whole : List ℕ) (count : ℕ) → let from = start_of (rest_after count (decode whole)) in
+        rest_after count (decode whole) ≡ later_text from (decode (drop from whole)) };
 }
 
 impl<'s> Source for StrCharIndices<'s> {
@@ -59,7 +57,7 @@ impl<'s> Source for StrCharIndices<'s> {
 
     ghost places = { λ _ _ place. place };
 
-    ghost goes_on = { behind-utf8 };
+    ghost rests = { rests-utf8 };
 }
 
 impl<'s> Source for Utf8CharIndices<'s> {
@@ -79,7 +77,7 @@ impl<'s> Source for Utf8CharIndices<'s> {
 
     ghost places = { λ _ _ _. tt };
 
-    ghost goes_on = { behind-utf8 };
+    ghost rests = { rests-utf8 };
 }
 
 impl<'s> Source for Latin1Indices<'s> {
@@ -99,7 +97,7 @@ impl<'s> Source for Latin1Indices<'s> {
 
     ghost places = { λ _ _ _. tt };
 
-    ghost goes_on = { behind-latin1 };
+    ghost rests = { rests-latin1 };
 }
 
 impl<'s> Source for Utf16Indices<'s> {
@@ -119,5 +117,5 @@ impl<'s> Source for Utf16Indices<'s> {
 
     ghost places = { λ _ _ _. tt };
 
-    ghost goes_on = { behind-utf16 };
+    ghost rests = { rests-utf16 };
 }

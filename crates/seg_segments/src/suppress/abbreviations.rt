@@ -4,8 +4,9 @@ ghost use Rattle.std.specs.Prelude.{◌≡◌, ◌↔◌, false, true, IfErr, If
 ghost use Rattle.std.specs.Str.{chars};
 ghost use Rattle.seg_data.specs.ScriptWords.{words_of};
 ghost use Rattle.seg_data.specs.WordSets.{IsSameSet, code_points_of_each};
-ghost use Rattle.seg_segments.specs.InLines.{AreInLines};
+ghost use Rattle.seg_segments.specs.InLines.{AreInLines, AreSpaceless, IsSpaceless};
 
+use crate::suppress::characters::is_space;
 use seg_data::provider::{DictionaryBreakData, DictionaryCursor};
 use std::alloc::Global;
 use std::fmt;
@@ -26,7 +27,10 @@ pub enum AbbreviationError {
 /// Upper and lower case differ.
 pub struct Abbreviations {
     words: DictionaryBreakData,
+    // Whether none has a space.
+    spaceless: bool,
     ghost in_lines: { AreInLines (words_of words) },
+    ghost without_spaces: { IsTrue spaceless → AreSpaceless (words_of words) },
 }
 
 impl fmt::Debug for Abbreviations {
@@ -38,7 +42,10 @@ impl fmt::Debug for Abbreviations {
 // Written out, so that it is proved here and not in each program.
 impl Drop for Abbreviations {
     fn drop(self) {
-        let Abbreviations { words: _ } = self;
+        let Abbreviations {
+            words: _,
+            spaceless: _,
+        } = self;
     }
 }
 
@@ -59,8 +66,9 @@ impl Abbreviations {
         if have_line_feed(words) {
             return Err(AbbreviationError::LineFeed);
         }
+        let spaceless = !have_space(words);
         match DictionaryBreakData::try_from_words(alloc, words) {
-            Ok(words) => Ok(Abbreviations { words }),
+            Ok(words) => Ok(Abbreviations { words, spaceless }),
             Err(_) => Err(AbbreviationError::Memory),
         }
     }
@@ -71,6 +79,13 @@ impl Abbreviations {
         ensures in_lines { AreInLines (words_after result) }
     {
         self.words.cursor()
+    }
+
+    /// Whether no abbreviation has a space. If `false`, nothing is said.
+    pub fn are_spaceless(&self) -> bool
+        ensures { IsTrue result → AreSpaceless (abbreviations_of self.now) }
+    {
+        self.spaceless
     }
 }
 
@@ -92,4 +107,23 @@ fn has_line_feed(word: &str) -> bool
     ensures { IsTrue result ↔ Contains (chars word.now) 0x0A }
 {
     word.chars().any(|character| character == '\n')
+}
+
+/// Whether some word has a space.
+fn have_space(words: &[&str]) -> bool
+    ensures { result ≡ false → AreSpaceless (code_points_of_each words.now) }
+{
+    for word in words {
+        if has_space(word) {
+            return true;
+        }
+    }
+    false
+}
+
+/// Whether a word has a space.
+fn has_space(word: &str) -> bool
+    ensures { result ≡ false → IsSpaceless (chars word.now) }
+{
+    word.chars().any(|character| is_space(u32::from(character)))
 }

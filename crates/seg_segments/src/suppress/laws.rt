@@ -1,11 +1,13 @@
 //! Laws of abbreviations. They do nothing.
 
-ghost use Rattle.std.specs.Prelude.{ℕ, ◌↔◌, IsTrue, List};
+ghost use Rattle.std.specs.Prelude.{◌≡◌, ℕ, ◌↔◌, false, IsTrue, List};
 ghost use Rattle.seg_data.specs.WordSets.{Words};
+ghost use Rattle.seg_clusters.specs.Certain.{AreCertain, BeginsBetween};
 ghost use Rattle.seg_clusters.specs.Clusters.{sentence_rules};
 ghost use Rattle.seg_clusters.specs.Rules.{PartsTexts, ResetsAfter, boundaries_by};
 ghost use Rattle.seg_segments.specs.Abbreviations.{abbreviations_of};
-ghost use Rattle.seg_segments.specs.Suppression.{is_abbreviated, without_abbreviated, EndsWithAbbreviation};
+ghost use Rattle.seg_segments.specs.InLines.{AreSpaceless};
+ghost use Rattle.seg_segments.specs.Suppression.{is_abbreviated, is_letter_or_digit, is_space, without_abbreviated, EndsWithAbbreviation};
 
 use crate::suppress::abbreviations::Abbreviations;
 use seg_clusters::laws::sentence;
@@ -29,4 +31,22 @@ pub fn parts_behind_line_feeds(
     let _ = abbreviations.cursor();
     sentence::cover(segmenter);
     sentence::parts_behind_resets(segmenter, '\n');
+}
+
+/// Law: where no abbreviation has a space, a text may be searched from a certain place of sentences on that has a space before it and none
+/// behind it. In each list that has such three code points one after another, above the place between the last two stand the boundaries that
+/// abbreviations leave of what begins there, taken alone, so much later. Whether one stands at the place depends on what stands before it.
+pub fn begins_at_certain_places(
+    abbreviations: &Abbreviations,
+    segmenter: SentenceSegmenterBorrowed<'_>,
+    before: u32,
+    one: u32,
+    other: u32,
+)
+    ensures { AreSpaceless (abbreviations_of abbreviations.now) → IsTrue (is_space one) → is_letter_or_digit one ≡ false → is_space other ≡ false
+        → AreCertain (sentence_rules segmenter.entry) before one other
+        → BeginsBetween (without_abbreviated (abbreviations_of abbreviations.now) (boundaries_by (sentence_rules segmenter.entry))) before one other }
+{
+    sentence::cover(segmenter);
+    sentence::certain_places(segmenter, before, one, other);
 }

@@ -4,8 +4,9 @@ use Rattle.seg_segments.proofs.cursor.BoundaryCursor.next_boundary.Goals as goal
 pub returns-in_err-found : goal.returns-in_err-found
 returns-in_err-found g c =
     rw (c.from_residual.ensures, ← c.self.view_is)
-    (part-above-none _ _ _ _ c.part_at-start.ensures.part c.part_at-start.ensures.order c.in_err-found.ensures.nearest)
+    (part-above-none _ _ _ _ c.part_at-part.ensures.part c.part_at-part.ensures.order c.in_err-found.ensures.nearest)
 
 pub returns : goal.returns
 returns g c =
-    rw (← c.self.view_is) (part-above-some _ _ _ _ _ c.part_at-start.ensures.part c.part_at-start.ensures.order c.in_ok-found.ensures.nearest)
+    rw (← c.self.view_is)
+    (part-above-some _ _ _ _ _ c.part_at-part.ensures.starts c.part_at-part.ensures.part c.part_at-part.ensures.order c.in_ok-found.ensures.nearest)
