@@ -85,12 +85,16 @@ impl<'data, I: Cursor> Drop for Paragraphs<'data, I> {
 }
 
 impl<'data, I: Cursor> Model for Paragraphs<'data, I> {
+    ghost use Rattle.std.proofs.Props.{props};
+    ghost use Rattle.std.specs.Coded.{codes};
     ghost use Rattle.seg_lines.specs.Lines.{lines_left};
     ghost use Rattle.seg_wrap.specs.Paragraphs.{ParagraphsLeft};
     ghost use Rattle.seg_wrap.specs.Walk.{AreCuts, measure_of};
     ghost use Rattle.seg_wrap.specs.Wrapping.{segments_from};
 
     ghost Value = { ParagraphsLeft };
+
+    ghost coded = { Prim.hlevel (codes, props) };
 
     ghost view = { λ s. record { text = I.text s.rest; segments = segments_from (measure_of s.measuring) (I.text s.rest) (lines_left s.breaks); measuring = s.measuring; style = s.style } };
 
