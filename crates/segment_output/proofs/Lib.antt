@@ -2,6 +2,7 @@ pub mod GivenParagraphs
 pub mod BareLines
 pub mod BareObjects
 pub mod Gathered
+pub mod HeldBoundaries
 pub mod JoinedCuts
 pub mod LineEnds
 pub mod MarkedPlaces

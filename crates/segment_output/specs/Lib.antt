@@ -1,5 +1,6 @@
 pub mod Paragraphs
 pub mod Gathered
+pub mod HeldBoundaries
 pub mod Limited
 pub mod Objects
 pub mod Output

@@ -6,7 +6,8 @@ ghost use Rattle.segment_output.specs.Output.{is_shown, is_word, shown_boundarie
 ghost use Rattle.segment_output.specs.declared.marks.Mark.TheVariants.{Unmarked, Word, Line, Rule};
 
 use icu_segmenter::options::WordType;
-use icu_segmenter::segments::{BreakIterator, Places};
+use icu_segmenter::segments::{BreakIterator, Places, StatusBreaks};
+use std::marker::Model;
 
 /// What is said of a segment beside its places.
 #[derive(Clone, Copy, PartialEq, Eq)]
@@ -52,16 +53,6 @@ pub trait HasMark: Copy {
     /// The mark of the segment.
     fn mark(self) -> Mark
         ensures { result ≡ said self };
-}
-
-// Of clusters and sentences nothing is said.
-impl HasMark for () {
-    ghost said = { λ _. Unmarked };
-
-    #[inline(always)]
-    fn mark(self) -> Mark {
-        Mark::Unmarked
-    }
 }
 
 impl HasMark for WordType {
@@ -121,19 +112,78 @@ impl Limit for UpTo {
     }
 }
 
+// How many boundaries are found at a time.
+const ROOM: usize = 64;
+
+/// The boundaries that an iterator has still to give, found many at a time. After None it stays None.
+#[derive(Drop)]
+pub struct Held<B: StatusBreaks> {
+    breaks: B,
+    // The places of those that were found, and their statuses: from `next` to `end` they weren't given yet.
+    places: [usize; ROOM],
+    statuses: [u8; ROOM],
+    next: usize,
+    end: usize,
+}
+
+impl<B: StatusBreaks> Model for Held<B> {
+    ghost use Rattle.std.specs.Prelude.{List, ◌≤◌, ◌++◌};
+    ghost use Rattle.icu_segmenter.specs.Boundary.{Boundary};
+    ghost use Rattle.segment_output.specs.HeldBoundaries.{held_boundaries};
+
+    ghost Value = { List Boundary };
+
+    ghost view = { λ s. held_boundaries s.next s.end s.places s.statuses ++ B.left s.breaks };
+
+    ghost invariant = { λ s. (s.next ≤ s.end) × (s.end ≤ 64) };
+}
+
+impl<B: StatusBreaks> Held<B> {
+    /// What is left of some boundaries. Takes no memory.
+    pub fn new(breaks: B) -> Self
+        ensures { result ≡ B.left breaks }
+    {
+        Held {
+            breaks,
+            places: [0; ROOM],
+            statuses: [0; ROOM],
+            next: 0,
+            end: 0,
+        }
+    }
+
+    /// The next boundary, as its place and what its status says. None at the end, and from then on.
+    #[inline(always)]
+    pub fn next_break(&mut self) -> Option<(usize, B::Mark)>
+        ensures { YieldsFirst (λ held. marked B.mark held) self.old result self.new }
+    {
+        if self.next == self.end {
+            self.end = self.breaks.fill_both(&mut self.places, &mut self.statuses);
+            self.next = 0;
+            if self.end == 0 {
+                return None;
+            }
+        }
+        let place = self.places[self.next];
+        let status = self.statuses[self.next];
+        self.next += 1;
+        Some((place, B::mark_of(status)))
+    }
+}
+
 /// The boundaries that an iterator has still to give up to a limit, each with the mark of the segment that ends there.
 #[derive(Drop)]
-pub struct Marked<B: BreakIterator, L: Limit> {
-    pub breaks: B,
+pub struct Marked<B: StatusBreaks, L: Limit> {
+    pub breaks: Held<B>,
     pub limit: L,
 }
 
-impl<M: HasMark, B: BreakIterator<Mark = M>, L: Limit> Iterator for Marked<B, L> {
+impl<M: HasMark, B: StatusBreaks<Mark = M>, L: Limit> Iterator for Marked<B, L> {
     type Item = (usize, Mark);
 
-    ghost next_gives = { YieldsFirst (λ s. marked (λ status. M.said (B.mark status)) (shown_boundaries (L.holds s.limit) (B.left s.breaks))) };
+    ghost next_gives = { YieldsFirst (λ s. marked (λ status. M.said (B.mark status)) (shown_boundaries (L.holds s.limit) s.breaks)) };
 
-    ghost remaining = { item_count (λ s. marked (λ status. M.said (B.mark status)) (shown_boundaries (L.holds s.limit) (B.left s.breaks))) };
+    ghost remaining = { item_count (λ s. marked (λ status. M.said (B.mark status)) (shown_boundaries (L.holds s.limit) s.breaks)) };
 
     #[inline(always)]
     fn next(&mut self) -> Option<(usize, Mark)> {
@@ -173,17 +223,17 @@ impl<B: BreakIterator, L: Limit> Iterator for Bare<B, L> {
 
 /// The boundaries by rules of the caller's own that an iterator has still to give up to a limit, each with its status.
 #[derive(Drop)]
-pub struct Ruled<B: BreakIterator, L: Limit> {
-    pub breaks: B,
+pub struct Ruled<B: StatusBreaks, L: Limit> {
+    pub breaks: Held<B>,
     pub limit: L,
 }
 
-impl<B: BreakIterator<Mark = bool>, L: Limit> Iterator for Ruled<B, L> {
+impl<B: StatusBreaks<Mark = bool>, L: Limit> Iterator for Ruled<B, L> {
     type Item = (usize, Mark);
 
-    ghost next_gives = { YieldsFirst (λ s. marked (λ status. Rule (B.mark status)) (shown_boundaries (L.holds s.limit) (B.left s.breaks))) };
+    ghost next_gives = { YieldsFirst (λ s. marked (λ status. Rule (B.mark status)) (shown_boundaries (L.holds s.limit) s.breaks)) };
 
-    ghost remaining = { item_count (λ s. marked (λ status. Rule (B.mark status)) (shown_boundaries (L.holds s.limit) (B.left s.breaks))) };
+    ghost remaining = { item_count (λ s. marked (λ status. Rule (B.mark status)) (shown_boundaries (L.holds s.limit) s.breaks)) };
 
     #[inline(always)]
     fn next(&mut self) -> Option<(usize, Mark)> {

@@ -1,5 +1,5 @@
 //! Segmenters by Unicode's data.
-ghost use Rattle.std.specs.Prelude.{◌≡◌, ◌≤◌, ◌++◌, ℕ, List, length, IfOk, IfSome, IsTrue};
+ghost use Rattle.std.specs.Prelude.{◌≡◌, ◌≤◌, ◌++◌, ℕ, List, length, IfOk, IfSome, IsTrue, false};
 ghost use Rattle.std.specs.Option.{option_map};
 ghost use Rattle.std.specs.Io.KnownBytes.{Appends};
 ghost use Rattle.segment_output.specs.Output.{lines_at, look_of, segments, shown_boundaries};
@@ -16,9 +16,9 @@ ghost use Rattle.icu_segmenter.specs.TextSegments.{marked};
 ghost use Rattle.icu_segmenter.specs.Words.{owned_word_rules};
 ghost use Rattle.segment_output.specs.Splits.{IsSplit};
 ghost use Rattle.segment_output.specs.TextSegmenter.{anywhere_by, boundaries_by, cluster_rules_by, line_rules_by, line_rules_of, segments_in, sentence_rules_by, suppressed_finder, word_rules_by, IsAskedOf};
-ghost use Rattle.segment_output.specs.declared.marks.Mark.TheVariants.{Rule};
+ghost use Rattle.segment_output.specs.declared.marks.Mark.TheVariants.{Rule, Unmarked};
 
-use crate::marks::{Bare, HasMark, Limit, Marked, Ruled};
+use crate::marks::{Bare, HasMark, Held, Limit, Marked, Ruled};
 use crate::output::{Part, print_segments};
 use crate::vocabulary::Vocabulary;
 use icu_segmenter::cursor::{BoundaryFinder, last_split};
@@ -26,7 +26,7 @@ use icu_segmenter::options::{LineBreakOptions, LineBreakStrictness};
 use icu_segmenter::provider::{
     DataError, Dictionaries, LineTailoringsBorrowed, SegmenterStateMachine,
 };
-use icu_segmenter::segments::BreakIterator;
+use icu_segmenter::segments::{BreakIterator, StatusBreaks};
 use icu_segmenter::suppress::{Abbreviations, SuppressingSegmenter};
 use icu_segmenter::{
     GraphemeClusterSegmenter, LineSegmenter, LineSegmenterBorrowed, SentenceSegmenter,
@@ -99,7 +99,7 @@ impl TextSegmenter {
         match self {
             TextSegmenter::Clusters(clusters) => {
                 let breaks = clusters.as_borrowed().segment_utf8(part.bytes);
-                print_breaks(alloc, Found { breaks, limit }, false, part, out)
+                print_unmarked(alloc, Found { breaks, limit }, part, out)
             }
             TextSegmenter::Words(words, alone) => {
                 let breaks = words.as_borrowed().segment_utf8(part.bytes);
@@ -107,11 +107,11 @@ impl TextSegmenter {
             }
             TextSegmenter::Sentences(sentences) => {
                 let breaks = sentences.as_borrowed().segment_utf8(part.bytes);
-                print_breaks(alloc, Found { breaks, limit }, false, part, out)
+                print_unmarked(alloc, Found { breaks, limit }, part, out)
             }
             TextSegmenter::Suppressing(sentences, abbreviations) => {
                 let breaks = suppressing(sentences, abbreviations).segment_utf8(part.bytes);
-                print_breaks(alloc, Found { breaks, limit }, false, part, out)
+                print_unmarked(alloc, Found { breaks, limit }, part, out)
             }
             TextSegmenter::Lines(lines) => {
                 let breaks = lines.as_borrowed().segment_utf8(part.bytes);
@@ -132,9 +132,29 @@ struct Found<B: BreakIterator, L: Limit> {
     limit: L,
 }
 
+// Writes the segments between the boundaries that come up to the limit, of which nothing is said.
+#[inline(always)]
+fn print_unmarked<B: BreakIterator<Mark = ()>, L: Limit, O: Write>(
+    alloc: Global,
+    found: Found<B, L>,
+    part: Part<'_>,
+    out: &mut O,
+) -> io::Result<usize>
+    ensures { IfOk result (λ count.
+        let shown = segments false (marked (λ status. Unmarked) (shown_boundaries (L.holds found.limit) (B.left found.breaks))) in
+        (count ≡ length shown) × Appends (O.contents out.old) (O.contents out.new) (lines_at (look_of part.entry) part.entry.before part.entry.bytes.now shown)) }
+{
+    let Found { breaks, limit } = found;
+    let mut places = Bare {
+        places: breaks.into_places(),
+        limit,
+    };
+    print_segments(alloc, &mut places, false, part, out)
+}
+
 // Writes the segments between the boundaries that come up to the limit, or words alone, with what is said of each.
 #[inline(always)]
-fn print_marked<M: HasMark, B: BreakIterator<Mark = M>, L: Limit, O: Write>(
+fn print_marked<M: HasMark, B: StatusBreaks<Mark = M>, L: Limit, O: Write>(
     alloc: Global,
     found: Found<B, L>,
     alone: bool,
@@ -146,13 +166,16 @@ fn print_marked<M: HasMark, B: BreakIterator<Mark = M>, L: Limit, O: Write>(
         (count ≡ length shown) × Appends (O.contents out.old) (O.contents out.new) (lines_at (look_of part.entry) part.entry.before part.entry.bytes.now shown)) }
 {
     let Found { breaks, limit } = found;
-    let mut places = Marked { breaks, limit };
+    let mut places = Marked {
+        breaks: Held::new(breaks),
+        limit,
+    };
     print_segments(alloc, &mut places, alone, part, out)
 }
 
 // Writes the segments between the boundaries that come up to the limit, or words alone. What is said of each is worked out only where that is asked for.
 #[inline(always)]
-fn print_breaks<M: HasMark, B: BreakIterator<Mark = M>, L: Limit, O: Write>(
+fn print_breaks<M: HasMark, B: StatusBreaks<Mark = M>, L: Limit, O: Write>(
     alloc: Global,
     found: Found<B, L>,
     alone: bool,
@@ -177,7 +200,7 @@ fn print_breaks<M: HasMark, B: BreakIterator<Mark = M>, L: Limit, O: Write>(
 // Writes the segments between the boundaries that come up to the limit by rules of the caller's own, or those alone that end at one
 // without status 1.
 #[inline(always)]
-fn print_ruled<B: BreakIterator<Mark = bool>, L: Limit, O: Write>(
+fn print_ruled<B: StatusBreaks<Mark = bool>, L: Limit, O: Write>(
     alloc: Global,
     found: Found<B, L>,
     alone: bool,
@@ -189,7 +212,10 @@ fn print_ruled<B: BreakIterator<Mark = bool>, L: Limit, O: Write>(
         (count ≡ length shown) × Appends (O.contents out.old) (O.contents out.new) (lines_at (look_of part.entry) part.entry.before part.entry.bytes.now shown)) }
 {
     let Found { breaks, limit } = found;
-    let mut places = Ruled { breaks, limit };
+    let mut places = Ruled {
+        breaks: Held::new(breaks),
+        limit,
+    };
     print_segments(alloc, &mut places, alone, part, out)
 }
 

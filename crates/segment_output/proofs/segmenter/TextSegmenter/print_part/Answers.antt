@@ -15,25 +15,25 @@ pub returns-in-Clusters-clause-written : goal.returns-in-Clusters-clause-written
 returns-in-Clusters-clause-written g c =
     rw c.in-Clusters.is
     (all-printed (g.L.Limit.holds c.args.limit) false (λ status. Unmarked) (λ found. lines_at (look_of c.args.part) c.args.part.before c.args.part.bytes.now found) _ _ _ _ _
-    (c.segment_utf8-breaks.ensures.boundaries ∙ ap (λ (rules : Rules). boundaries_of rules (utf8 c.args.part.bytes.now)) c.as_borrowed.ensures) c.print_breaks.ensures)
+    (c.segment_utf8-breaks.ensures.boundaries ∙ ap (λ (rules : Rules). boundaries_of rules (utf8 c.args.part.bytes.now)) c.as_borrowed.ensures) c.print_unmarked.ensures)
 
 pub returns-in-Words-clause-written : goal.returns-in-Words-clause-written
 returns-in-Words-clause-written g c =
     rw c.in-Words.is
     (all-printed (g.L.Limit.holds c.args.limit) c.in-Words.alone (λ status. Word (type_of status)) (λ found. lines_at (look_of c.args.part) c.args.part.before c.args.part.bytes.now found) _ _ _ _ _
-    (c.segment_utf8-breaks-in-Words.ensures.boundaries ∙ ap (λ (rules : WordRules). word_boundaries_of rules (utf8 c.args.part.bytes.now)) c.as_borrowed-in-Words.ensures) c.print_breaks-in-Words.ensures)
+    (c.segment_utf8-breaks-in-Words.ensures.boundaries ∙ ap (λ (rules : WordRules). word_boundaries_of rules (utf8 c.args.part.bytes.now)) c.as_borrowed-in-Words.ensures) c.print_breaks.ensures)
 
 pub returns-in-Sentences-clause-written : goal.returns-in-Sentences-clause-written
 returns-in-Sentences-clause-written g c =
     rw c.in-Sentences.is
     (all-printed (g.L.Limit.holds c.args.limit) false (λ status. Unmarked) (λ found. lines_at (look_of c.args.part) c.args.part.before c.args.part.bytes.now found) _ _ _ _ _
-    (c.segment_utf8-breaks-in-Sentences.ensures.boundaries ∙ ap (λ (rules : Rules). boundaries_of rules (utf8 c.args.part.bytes.now)) c.as_borrowed-in-Sentences.ensures) c.print_breaks-in-Sentences.ensures)
+    (c.segment_utf8-breaks-in-Sentences.ensures.boundaries ∙ ap (λ (rules : Rules). boundaries_of rules (utf8 c.args.part.bytes.now)) c.as_borrowed-in-Sentences.ensures) c.print_unmarked-in-Sentences.ensures)
 
 pub returns-in-Suppressing-clause-written : goal.returns-in-Suppressing-clause-written
 returns-in-Suppressing-clause-written g c =
     rw c.in-Suppressing.is
     (all-printed (g.L.Limit.holds c.args.limit) false (λ status. Unmarked) (λ found. lines_at (look_of c.args.part) c.args.part.before c.args.part.bytes.now found) _ _ _ _ _
-    (c.segment_utf8-breaks-in-Suppressing.ensures.boundaries ∙ ap (λ find. boundaries_in find (utf8 c.args.part.bytes.now)) c.suppressing.ensures) c.print_breaks-in-Suppressing.ensures)
+    (c.segment_utf8-breaks-in-Suppressing.ensures.boundaries ∙ ap (λ find. boundaries_in find (utf8 c.args.part.bytes.now)) c.suppressing.ensures) c.print_unmarked-in-Suppressing.ensures)
 
 pub returns-in-Lines-clause-written : goal.returns-in-Lines-clause-written
 returns-in-Lines-clause-written g c =
