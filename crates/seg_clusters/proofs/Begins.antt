@@ -1,5 +1,5 @@
 -- What begins at a certain place is as alone above it.
-use Rattle.std.proofs.Common.{◌≡◌, ℕ, suc, ◌+◌, ◌-◌, Bool, true, false, List, [], ◌∷◌, ◌++◌, take, drop, length, cond, refl, sym, ap, ap₂, ◌∙◌, subst, arith, length-append}
+use Rattle.std.proofs.Common.{◌≡◌, ℕ, suc, ◌+◌, ◌-◌, ◌<◌, Bool, true, false, List, [], ◌∷◌, ◌++◌, take, drop, length, cond, refl, sym, ap, ap₂, ◌∙◌, subst, arith, length-append}
 use Rattle.std.specs.Prelude.{filter, nat_lt}
 use Rattle.std.proofs.lemmas.Bool.{le-ltb, lt-ltb}
 use Rattle.std.proofs.lemmas.List.Elements.{filter-append}
@@ -60,3 +60,14 @@ splits-begin find before one other cover parts earlier later =
     (ap (above place) (sym (all-true (without_last (find ended))))
     ∙ cover-none (λ _. true) place (find ended) (subst (λ (n : ℕ). IsCover 0 n (find ended)) size (cover ended)))
     (above-later place (length second) (find second) (cover second))
+
+-- of one code point, one boundary stands behind its start
+pub record IsOne (boundaries : List Boundary) : Type 0 where
+  pub last : Boundary
+  pub is : boundaries ≡ last ∷ []
+  pub after_start : 0 < last.offset
+
+pub one-boundary : (boundaries : List Boundary) → RisesTo 0 boundaries 1 → IsOne boundaries
+one-boundary [] rises = absurd (omega (arith, rises))
+one-boundary (last ∷ []) rises = record { last = last; is = refl; after_start = rises.0 }
+one-boundary (found ∷ next ∷ boundaries) rises = absurd (omega (arith, rises.0, rises.1.0, rises-le boundaries next.offset 1 rises.1.1))

@@ -8,7 +8,7 @@ use Rattle.std.proofs.lemmas.Option.{slice_get_within, slice_get-map, get_or_fro
 use Rattle.seg_text.specs.declared.boundary.Boundary.{Boundary}
 use Rattle.seg_text.specs.Boundaries.{boundary, offsets, shift, shift_all, later_boundaries}
 use Rattle.seg_text.proofs.Stretches.{later-next}
-use Rattle.seg_data.proofs.Options.{option-cases}
+use Rattle.seg_data.proofs.Options.{if-some, option-cases}
 use Rattle.seg_machine.specs.declared.provider.Acceptance.{Acceptance}
 use Rattle.seg_machine.specs.declared.provider.Acceptance.TheVariants.{Continue, Accept, Conditional}
 use Rattle.seg_machine.specs.Machine.{Machine, run, scan, state_at, step, symbol_and_script, symbols_of}
@@ -20,7 +20,7 @@ use Rattle.seg_machine.proofs.Picks.{pick-bounds}
 use Rattle.seg_machine.proofs.Segmentations.{machine-going, machine-picks, symbols_of-text}
 use Rattle.seg_machine.proofs.Transitions.{leads-to}
 use Rattle.seg_machine.specs.Certain.{GoesOnBy, IsCertain, NeverBreaks, StopsBetween}
-use Rattle.seg_machine.proofs.Passes.{if-some, stops-or-not}
+use Rattle.seg_machine.proofs.Passes.{stops-or-not}
 use Rattle.seg_clusters.specs.Certain.{AlwaysBreaks, AreCertain}
 use Rattle.seg_clusters.specs.Rules.{Rules, boundaries_by}
 use Rattle.seg_clusters.specs.Rules.Rules.{ByMachine}

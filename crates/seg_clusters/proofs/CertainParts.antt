@@ -8,14 +8,14 @@ use Rattle.seg_text.specs.declared.boundary.Boundary.{Boundary}
 use Rattle.seg_text.specs.Boundaries.{boundary, shift, shift_all, start, later_boundaries}
 use Rattle.seg_text.proofs.Places.{shifted-append, shifted-twice}
 use Rattle.seg_text.proofs.Stretches.{later-next, later-nil}
-use Rattle.seg_data.proofs.Options.{option-cases}
+use Rattle.seg_data.proofs.Options.{if-some, option-cases}
 use Rattle.seg_machine.specs.Machine.{Machine, run, scan, state_at, step, symbol_and_script, symbols_of}
 use Rattle.seg_machine.specs.MachineFaults.{IsChecked}
 use Rattle.seg_machine.specs.Pick.{machine_boundaries, machine_stretch, pick, picked_step}
 use Rattle.seg_machine.proofs.Segmentations.{machine-going, machine-picks}
 use Rattle.seg_machine.proofs.Transitions.{leads-to}
 use Rattle.seg_machine.specs.Certain.{IsCertain, StopsBetween}
-use Rattle.seg_machine.proofs.Passes.{if-some, stops-or-not}
+use Rattle.seg_machine.proofs.Passes.{stops-or-not}
 use Rattle.seg_clusters.specs.Certain.{AreCertain, SplitsBetween, without_last}
 use Rattle.seg_clusters.specs.Rules.{Rules, boundaries_by}
 use Rattle.seg_clusters.specs.Rules.Rules.{ByMachine}

@@ -6,6 +6,7 @@ use Rattle.seg_text.specs.Items.{Item, Reader, Text, place_of, start_of, rest_af
 use Rattle.seg_text.specs.Boundaries.{IsCover, RisesTo, boundary, boundary_in, boundaries_in, shift_all}
 use Rattle.seg_text.specs.Lemmas.Readers.{IsStable, items_by-nil, items_by-cons, place_of-items_by}
 use Rattle.seg_text.proofs.Covers.{rises-le}
+use Rattle.seg_text.proofs.LaterItems.{items-later, later-codes, later-place, later_items}
 use Rattle.seg_text.proofs.Places.{in-append}
 use Rattle.seg_clusters.specs.Rules.{PartsBehind}
 
@@ -41,40 +42,9 @@ drop-past (item ∷ one) other n =
     let same : suc (length one) + n ≡ suc (length one + n) = omega arith in
     ap (λ k. drop k (item ∷ (one ++ other))) same ∙ drop-past one other n
 
--- items so much later
-abbrev pub later_items : ℕ → List Item → List Item
-later_items before items = map (λ (item : Item). (before + item.0, item.1)) items
-
-pub later-codes : (before : ℕ) (items : List Item) → code_points (later_items before items) ≡ code_points items
-later-codes before [] = refl
-later-codes before (item ∷ items) = ap (λ codes. item.1 ∷ codes) (later-codes before items)
-
-pub later-place : (before end : ℕ) (items : List Item) → place_of (later_items before items) (before + end) ≡ before + place_of items end
-later-place before end [] = refl
-later-place before end (item ∷ items) = refl
-
 module _ (read : Reader ℕ) (stable : IsStable read) where
   abbrev items : ℕ → List ℕ → List Item
   items = items_by read
-
-  -- items from a later place on are the same, so much later
-  items-within : (most before place : ℕ) (units : List ℕ) → length units ≤ most → items (before + place) units ≡ later_items before (items place units)
-  items-within most before place [] bound = items_by-nil read (before + place) ∙ sym (ap (later_items before) (items_by-nil read place))
-  items-within zero before place (unit ∷ units) bound = absurd (omega arith)
-  items-within (suc most) before place (unit ∷ units) bound =
-      let found = read (unit ∷ units) in
-      let left = drop found.0 (unit ∷ units) in
-      let fewer : length left ≤ most = omega (arith, length-drop found.0 (unit ∷ units), stable.reader.some unit units) in
-      let sum : before + place + found.0 ≡ before + (place + found.0) = omega arith in
-      items_by-cons read stable.reader (before + place) unit units
-      ∙ ap (λ at. (before + place, found.1) ∷ items at left) sum
-      ∙ ap (λ later. (before + place, found.1) ∷ later) (items-within most before (place + found.0) left fewer)
-      ∙ sym (ap (later_items before) (items_by-cons read stable.reader place unit units))
-
-  items-later : (before : ℕ) (units : List ℕ) → items before units ≡ later_items before (items 0 units)
-  items-later before units =
-      let same : before ≡ before + 0 = omega arith in
-      ap (λ place. items place units) same ∙ items-within (length units) before 0 units (omega arith)
 
   module _ (mark : List ℕ) (c : ℕ) (is : IsApart read mark c) where
     -- units that end with the mark have the code point as their last item, whatever follows
@@ -153,7 +123,7 @@ module _ (read : Reader ℕ) (stable : IsStable read) where
       whole-items =
           ap (items 0) (append_assoc before mark second) ∙ split.parts second
           ∙ ap (λ at. split.front ++ (split.at, c) ∷ items at second) end-of-first
-          ∙ ap (λ rest. split.front ++ (split.at, c) ∷ rest) (items-later (length first) second)
+          ∙ ap (λ rest. split.front ++ (split.at, c) ∷ rest) (items-later read stable.reader (length first) second)
           ∙ sym (append_assoc split.front ((split.at, c) ∷ []) (later_items (length first) two.items))
           ∙ sym (ap (λ items. items ++ later_items (length first) two.items) one-items)
 

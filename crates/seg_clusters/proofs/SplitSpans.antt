@@ -1,8 +1,8 @@
--- What is found span by span may be split after a code point outside runs, where what is found in a piece between runs may.
+-- What is found span by span may be split where another span begins, and after a code point outside runs where what is found in a piece between runs may.
 use Rattle.std.proofs.Common.{◌≡◌, ℕ, zero, suc, ◌+◌, ◌<◌, ◌≤◌, inl, inr, Bool, true, false, List, [], ◌∷◌, ◌++◌, length, take, drop, refl, sym, ap, ap₂, ◌∙◌, subst, arith, append_assoc, append-nil, length-append, take_all, eq-eqb}
 use Rattle.std.specs.Prelude.{None}
 use Rattle.std.specs.List.{prefix_len}
-use Rattle.std.proofs.lemmas.Bool.{cases_lt, cond_both, eqb-true}
+use Rattle.std.proofs.lemmas.Bool.{cases_lt, cond_both, eqb-true, false_from_ne_true}
 use Rattle.std.proofs.lemmas.List.{drop_all, length-drop, drop-append-le}
 use Rattle.seg_text.specs.declared.boundary.Boundary.{Boundary}
 use Rattle.seg_text.specs.Boundaries.{offsets, shift_all, Stretch, later_boundaries}
@@ -13,7 +13,7 @@ use Rattle.seg_data.specs.declared.provider.ComplexScript.TheVariants.{None as N
 use Rattle.seg_data.specs.ScriptWords.{ScriptWords, words_in}
 use Rattle.seg_clusters.specs.Rules.{boundaries_by}
 use Rattle.seg_machine.specs.Machine.{Machine}
-use Rattle.seg_clusters.specs.Spans.{inner_cuts, inner_stretch, IsOutsideRuns, PartsCuts, has_worded_script, span_length, worded_script}
+use Rattle.seg_clusters.specs.Spans.{inner_cuts, inner_stretch, IsOutsideRuns, IsSpanEdge, PartsCuts, has_worded_script, span_length, worded_script}
 use Rattle.seg_clusters.specs.Scripts.{later_places}
 use Rattle.seg_clusters.specs.Payloads.{Payloads}
 use Rattle.seg_clusters.proofs.Cutting.{offsets-append}
@@ -100,7 +100,7 @@ module _ (m : Machine) (words : ScriptWords) (inner : InSpan) (nothing : inner N
   AreSplit xs ys = later (xs ++ ys) ≡ later xs ++ shift_all (length xs) (later ys)
 
   -- the first list is one piece between runs
-  pub one-piece : (x : ℕ) (xs ys : List ℕ) → script x ≡ NoScript → span_length m words (x ∷ xs) ≡ length (x ∷ xs)
+  one-piece : (x : ℕ) (xs ys : List ℕ) → script x ≡ NoScript → span_length m words (x ∷ xs) ≡ length (x ∷ xs)
       → ((zs : List ℕ) → inner None ((x ∷ xs) ++ zs) ≡ inner None (x ∷ xs) ++ shift_all (length (x ∷ xs)) (inner None zs))
       → AreSplit (x ∷ xs) ys
   one-piece x xs ys is all splits =
@@ -124,8 +124,31 @@ module _ (m : Machine) (words : ScriptWords) (inner : InSpan) (nothing : inner N
       ∙ ap (λ (found : List Boundary). inner None (x ∷ xs) ++ found) (sym (shifted-append size (inner None (take k ys)) (shift_all k rest)))
       ∙ ap₂ (λ (some others : List Boundary). some ++ shift_all size others) (sym front) (sym (piece-first ys))
 
+  -- the first list is one span, and another begins behind it
+  one-span : (one other : ℕ) → IsSpanEdge m words one other → (x : ℕ) (xs ys : List ℕ) → script one ≡ script x → span_length m words (x ∷ xs) ≡ length (x ∷ xs)
+      → AreSplit (x ∷ xs) (other ∷ ys)
+  one-span one other edge x xs ys is all =
+      let size : ℕ = length (x ∷ xs) in
+      let fails : has_worded_script m words (script x) other ≡ false =
+      false_from_ne_true (has_worded_script m words (script x) other) (λ passes. edge (is ∙ sym (same-number (script other) (script x) (eqb-true _ _ passes)))) in
+      let none : prefix_len (has_worded_script m words (script x)) (other ∷ ys) ≡ 0 = rw fails refl in
+      let whole : span_length m words ((x ∷ xs) ++ other ∷ ys) ≡ size + 0 =
+      passes-all (has_worded_script m words (script x)) (x ∷ xs) (other ∷ ys) all ∙ ap (λ n. size + n) none in
+      let plus : size + 0 ≡ size = omega arith in
+      let front : later (x ∷ xs) ≡ inner (words_in words (script x)) (x ∷ xs) =
+      next x xs
+      ∙ ap (λ n. inner (words_in words (script x)) (take n (x ∷ xs)) ++ shift_all n (later (drop n (x ∷ xs)))) all
+      ∙ ap₂ (λ taken left. inner (words_in words (script x)) taken ++ shift_all size (later left)) (take_all size (x ∷ xs) (omega arith)) (drop_all size (x ∷ xs) (omega arith))
+      ∙ ap (λ (none : List Boundary). inner (words_in words (script x)) (x ∷ xs) ++ shift_all size none) (later-nil first)
+      ∙ append-nil (inner (words_in words (script x)) (x ∷ xs)) in
+      next x (xs ++ other ∷ ys)
+      ∙ ap (λ n. inner (words_in words (script x)) (take n ((x ∷ xs) ++ other ∷ ys)) ++ shift_all n (later (drop n ((x ∷ xs) ++ other ∷ ys)))) whole
+      ∙ ap₂ (λ taken left. inner (words_in words (script x)) taken ++ shift_all (size + 0) (later left))
+      (take-past (x ∷ xs) (other ∷ ys) 0 ∙ append-nil (x ∷ xs)) (drop-past (x ∷ xs) (other ∷ ys) 0)
+      ∙ ap₂ (λ (some : List Boundary) n. some ++ shift_all n (later (other ∷ ys))) (sym front) plus
+
   -- the first list has more than its first span
-  pub more-spans : (x : ℕ) (xs ys : List ℕ) → let n = span_length m words (x ∷ xs) in
+  more-spans : (x : ℕ) (xs ys : List ℕ) → let n = span_length m words (x ∷ xs) in
       n < length (x ∷ xs) → AreSplit (drop n (x ∷ xs)) ys → AreSplit (x ∷ xs) ys
   more-spans x xs ys less left =
       let n : ℕ = span_length m words (x ∷ xs) in
@@ -144,15 +167,16 @@ module _ (m : Machine) (words : ScriptWords) (inner : InSpan) (nothing : inner N
       ∙ sym (append_assoc found (shift_all n (later rest)) (shift_all (length (x ∷ xs)) (later ys)))
       ∙ ap (λ (front : List Boundary). front ++ shift_all (length (x ∷ xs)) (later ys)) (sym (next x xs))
 
-  module _ (c : ℕ) (outside : IsOutsideRuns m words c)
-      (splits : (before zs : List ℕ) → inner None ((before ++ c ∷ []) ++ zs) ≡ inner None (before ++ c ∷ []) ++ shift_all (length (before ++ c ∷ [])) (inner None zs)) where
-    split-within : (most : ℕ) (before ys : List ℕ) → length before ≤ most → AreSplit (before ++ c ∷ []) ys
-    split-within most [] ys bound =
+  -- a list that ends with a code point may be split behind it, if one span that ends with it may
+  module _ (c : ℕ) (ys : List ℕ)
+      (may : (x : ℕ) (xs before : List ℕ) → x ∷ xs ≡ before ++ c ∷ [] → script c ≡ script x → span_length m words (x ∷ xs) ≡ length (x ∷ xs) → AreSplit (x ∷ xs) ys) where
+    split-within : (most : ℕ) (before : List ℕ) → length before ≤ most → AreSplit (before ++ c ∷ []) ys
+    split-within most [] bound =
         let here : has_worded_script m words (script c) c ≡ true = eq-eqb _ _ refl in
         let one : span_length m words (c ∷ []) ≡ 1 = rw here refl in
-        one-piece c [] ys outside one (splits [])
-    split-within zero (x ∷ before) ys bound = absurd (omega arith)
-    split-within (suc most) (x ∷ before) ys bound =
+        may c [] [] refl refl one
+    split-within zero (x ∷ before) bound = absurd (omega arith)
+    split-within (suc most) (x ∷ before) bound =
         let all : List ℕ = x ∷ (before ++ c ∷ []) in
         let n : ℕ = span_length m words all in
         let inside = span-inside m words all in
@@ -161,16 +185,30 @@ module _ (m : Machine) (words : ScriptWords) (inner : InSpan) (nothing : inner N
               let size = length-append before (c ∷ []) in
               let left : drop n all ≡ drop n (x ∷ before) ++ c ∷ [] = drop-append-le n (x ∷ before) (c ∷ []) (omega (arith, less, size)) in
               let fewer : length (drop n (x ∷ before)) ≤ most = omega (arith, length-drop n (x ∷ before), span-some m words x (before ++ c ∷ [])) in
-              more-spans x (before ++ c ∷ []) ys less (subst (λ (xs : List ℕ). AreSplit xs ys) (sym left) (split-within most (drop n (x ∷ before)) ys fewer))
+              more-spans x (before ++ c ∷ []) ys less (subst (λ (xs : List ℕ). AreSplit xs ys) (sym left) (split-within most (drop n (x ∷ before)) fewer))
           | inr past ↦
               let whole : n ≡ length all = omega (arith, past, inside) in
               let last : has_worded_script m words (script x) c ≡ true = passes-last (has_worded_script m words (script x)) (x ∷ before) c whole in
-              let is : script x ≡ NoScript = sym (same-number (script c) (script x) (eqb-true _ _ last)) ∙ outside in
-              one-piece x (before ++ c ∷ []) ys is whole (splits (x ∷ before))
+              may x (before ++ c ∷ []) (x ∷ before) refl (same-number (script c) (script x) (eqb-true _ _ last)) whole
         ]
 
-    pub spans-split : (before ys : List ℕ) → AreSplit (before ++ c ∷ []) ys
-    spans-split before ys = split-within (length before) before ys (omega arith)
+    split-behind : (before : List ℕ) → AreSplit (before ++ c ∷ []) ys
+    split-behind before = split-within (length before) before (omega arith)
+
+  -- so it may behind a code point outside runs, where what is found in a piece may
+  pub spans-split : (c : ℕ) → IsOutsideRuns m words c
+      → ((before zs : List ℕ) → inner None ((before ++ c ∷ []) ++ zs) ≡ inner None (before ++ c ∷ []) ++ shift_all (length (before ++ c ∷ [])) (inner None zs))
+      → (before ys : List ℕ) → AreSplit (before ++ c ∷ []) ys
+  spans-split c outside splits before ys =
+      split-behind c ys
+      (λ x xs earlier is same all.
+      one-piece x xs ys (sym same ∙ outside) all
+      (subst (λ (first : List ℕ). (zs : List ℕ) → inner None (first ++ zs) ≡ inner None first ++ shift_all (length first) (inner None zs)) (sym is) (splits earlier)))
+      before
+
+  -- .. and where another span begins
+  pub edge-split : (one other : ℕ) → IsSpanEdge m words one other → (before ys : List ℕ) → AreSplit (before ++ one ∷ []) (other ∷ ys)
+  edge-split one other edge before ys = split-behind one (other ∷ ys) (λ x xs earlier is same all. one-span one other edge x xs ys same all) before
 
 -- the cuts inside runs
 

@@ -279,8 +279,8 @@ impl<'data> GraphemeClusterSegmenterBorrowed<'data> {
     }
 
     /// Whether each text that has these three code points one after another has a boundary between the last two
-    /// (`laws::grapheme::certain_places`). It asks the machine for at most three steps a state and three more; by a pair table it is `false`. Takes
-    /// no memory.
+    /// (`laws::grapheme::certain_places`), since no scan of the machine passes there. It is one look-up where the machine has rows, else it asks for
+    /// at most three steps a state and three more. By a pair table it is `false`. Takes no memory.
     pub fn always_breaks(self, before: u32, one: u32, other: u32) -> bool
         ensures { IsTrue result ↔ AreCertain (cluster_rules self.entry) before one other }
     {

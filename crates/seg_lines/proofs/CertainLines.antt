@@ -1,15 +1,7 @@
 -- Certain places of lines by a machine: where its symbols are certain and no run goes over the place, a boundary stands, and a text may be split.
-use Rattle.std.proofs.Common.{◌≡◌, ℕ, zero, suc, ◌+◌, ◌<◌, ◌≤◌, ◌⊎◌, inl, inr, true, false, List, [], ◌∷◌, ◌++◌, Contains, length, take, drop, refl, sym, ap, ap₂, ◌∙◌, subst, arith, append-nil, length-append, take_all, eq-eqb}
-use Rattle.std.specs.Prelude.{None}
-use Rattle.std.specs.List.{prefix_len}
-use Rattle.std.proofs.lemmas.Bool.{cases_lt, eqb-true, false_from_ne_true}
-use Rattle.std.proofs.lemmas.List.{drop_all, length-drop, drop-append-le}
+use Rattle.std.proofs.Common.{◌≡◌, ℕ, suc, ◌+◌, ◌<◌, ◌⊎◌, inl, inr, List, [], ◌∷◌, ◌++◌, Contains, length, drop, refl, sym, ap, ap₂, ◌∙◌, subst, arith, length-append}
 use Rattle.seg_text.specs.declared.boundary.Boundary.{Boundary}
 use Rattle.seg_text.specs.Boundaries.{IsCover, RisesTo, offsets, shift, shift_all, later_boundaries}
-use Rattle.seg_text.proofs.Covers.{rises-le}
-use Rattle.seg_text.proofs.Stretches.{later-nil}
-use Rattle.seg_data.specs.declared.provider.ComplexScript.{ComplexScript}
-use Rattle.seg_data.specs.ScriptWords.{ScriptWords, words_in}
 use Rattle.seg_machine.specs.MachineFaults.{IsChecked}
 use Rattle.seg_machine.specs.Machine.{Machine as AnyMachine}
 use Rattle.seg_machine.specs.Pick.{machine_boundaries, machine_stretch}
@@ -17,19 +9,17 @@ use Rattle.seg_machine.specs.declared.tailored_machine.TailoredMachineBorrowed.{
 use Rattle.seg_clusters.specs.Certain.{AlwaysBreaks, AreCertain, BeginsBetween, SplitsBetween, without_last}
 use Rattle.seg_clusters.specs.Rules.{boundaries_by}
 use Rattle.seg_clusters.specs.Rules.Rules.{ByMachine as ByClusterMachine}
-use Rattle.seg_clusters.specs.Spans.{inner_cuts, inner_stretch, IsOutsideRuns, IsSpanEdge, has_worded_script, span_length, worded_script}
+use Rattle.seg_clusters.specs.Spans.{inner_cuts, inner_stretch, IsOutsideRuns, IsSpanEdge}
 use Rattle.seg_clusters.specs.Scripts.{CoverPieces, later_places}
 use Rattle.seg_clusters.specs.Payloads.{Payloads, piece_cuts_by}
 use Rattle.seg_clusters.proofs.ByRules.{machine-covers}
 use Rattle.seg_clusters.proofs.Certain.{certain-by}
-use Rattle.seg_clusters.proofs.Begins.{splits-begin}
+use Rattle.seg_clusters.proofs.Begins.{IsOne, one-boundary, splits-begin}
 use Rattle.seg_clusters.proofs.CertainParts.{last-off, splits-by}
 use Rattle.seg_clusters.proofs.Cutting.{offsets-append}
 use Rattle.seg_clusters.proofs.InnerCuts.{in-span}
 use Rattle.seg_clusters.proofs.InnerRange.{AreBetween, inner-between}
-use Rattle.seg_clusters.proofs.Pieces.{same-number}
-use Rattle.seg_clusters.proofs.SpanStretches.{InSpan, span-inside, span-some, stretch_with}
-use Rattle.seg_clusters.proofs.SplitSpans.{AreSplit, cuts-split, drop-past, later, later-offsets, more-spans, next, passes-all, passes-last, take-past}
+use Rattle.seg_clusters.proofs.SplitSpans.{cuts-split, edge-split, later-offsets}
 use Rattle.seg_lines.specs.LineBreaks.{joined, LineFinder, LineRules, LinesAreCertain, LinesAreCertainWith, boundaries_with, line_boundaries_by}
 use Rattle.seg_lines.specs.LineBreaks.LineFinder.{ByMachine, ByPlaces}
 use Rattle.seg_lines.specs.Lines.{finder_of}
@@ -41,61 +31,6 @@ use Rattle.seg_lines.proofs.Joins.{AreAtMost}
 use Rattle.seg_lines.proofs.PlainBoundaries.{plain, plain-append, plain-cover, plain-drop, plain-offsets, plain-shift, plain-without-last}
 use Rattle.seg_lines.proofs.SplitLines.{HasFrom, cuts-above, cuts-at-most, joined-parts, rest-joined}
 
--- what is found span by span, where a list ends with a code point and another span begins behind it
-
-module _ (m : AnyMachine) (words : ScriptWords) (inner : InSpan) (nothing : inner None [] ≡ []) (one other : ℕ) (edge : IsSpanEdge m words one other) where
-  abbrev script : ℕ → ComplexScript
-  script = worded_script m words
-
-  abbrev found_later : List ℕ → List Boundary
-  found_later = later m words inner nothing
-
-  -- the first list is one span
-  one-span : (x : ℕ) (xs ys : List ℕ) → has_worded_script m words (script x) one ≡ true → span_length m words (x ∷ xs) ≡ length (x ∷ xs)
-      → AreSplit m words inner nothing (x ∷ xs) (other ∷ ys)
-  one-span x xs ys last all =
-      let size : ℕ = length (x ∷ xs) in
-      let is : script one ≡ script x = same-number (script one) (script x) (eqb-true _ _ last) in
-      let fails : has_worded_script m words (script x) other ≡ false =
-      false_from_ne_true (has_worded_script m words (script x) other) (λ passes. edge (is ∙ sym (same-number (script other) (script x) (eqb-true _ _ passes)))) in
-      let none : prefix_len (has_worded_script m words (script x)) (other ∷ ys) ≡ 0 = rw fails refl in
-      let whole : span_length m words ((x ∷ xs) ++ other ∷ ys) ≡ size + 0 =
-      passes-all (has_worded_script m words (script x)) (x ∷ xs) (other ∷ ys) all ∙ ap (λ n. size + n) none in
-      let plus : size + 0 ≡ size = omega arith in
-      let front : found_later (x ∷ xs) ≡ inner (words_in words (script x)) (x ∷ xs) =
-      next m words inner nothing x xs
-      ∙ ap (λ n. inner (words_in words (script x)) (take n (x ∷ xs)) ++ shift_all n (found_later (drop n (x ∷ xs)))) all
-      ∙ ap₂ (λ taken left. inner (words_in words (script x)) taken ++ shift_all size (found_later left)) (take_all size (x ∷ xs) (omega arith)) (drop_all size (x ∷ xs) (omega arith))
-      ∙ ap (λ (none : List Boundary). inner (words_in words (script x)) (x ∷ xs) ++ shift_all size none) (later-nil (stretch_with m words inner))
-      ∙ append-nil (inner (words_in words (script x)) (x ∷ xs)) in
-      next m words inner nothing x (xs ++ other ∷ ys)
-      ∙ ap (λ n. inner (words_in words (script x)) (take n ((x ∷ xs) ++ other ∷ ys)) ++ shift_all n (found_later (drop n ((x ∷ xs) ++ other ∷ ys)))) whole
-      ∙ ap₂ (λ taken left. inner (words_in words (script x)) taken ++ shift_all (size + 0) (found_later left))
-      (take-past (x ∷ xs) (other ∷ ys) 0 ∙ append-nil (x ∷ xs)) (drop-past (x ∷ xs) (other ∷ ys) 0)
-      ∙ ap₂ (λ (some : List Boundary) n. some ++ shift_all n (found_later (other ∷ ys))) (sym front) plus
-
-  edge-within : (most : ℕ) (before ys : List ℕ) → length before ≤ most → AreSplit m words inner nothing (before ++ one ∷ []) (other ∷ ys)
-  edge-within most [] ys bound =
-      let here : has_worded_script m words (script one) one ≡ true = eq-eqb _ _ refl in
-      let single : span_length m words (one ∷ []) ≡ 1 = rw here refl in
-      one-span one [] ys here single
-  edge-within zero (x ∷ before) ys bound = absurd (omega arith)
-  edge-within (suc most) (x ∷ before) ys bound =
-      let all : List ℕ = x ∷ (before ++ one ∷ []) in
-      let n : ℕ = span_length m words all in
-      let inside = span-inside m words all in
-      elim (cases_lt n (length all)) [
-        | inl less ↦
-            let size = length-append before (one ∷ []) in
-            let left : drop n all ≡ drop n (x ∷ before) ++ one ∷ [] = drop-append-le n (x ∷ before) (one ∷ []) (omega (arith, less, size)) in
-            let fewer : length (drop n (x ∷ before)) ≤ most = omega (arith, length-drop n (x ∷ before), span-some m words x (before ++ one ∷ [])) in
-            more-spans m words inner nothing x (before ++ one ∷ []) (other ∷ ys) less
-            (subst (λ (xs : List ℕ). AreSplit m words inner nothing xs (other ∷ ys)) (sym left) (edge-within most (drop n (x ∷ before)) ys fewer))
-        | inr past ↦
-            let whole : n ≡ length all = omega (arith, past, inside) in
-            one-span x (before ++ one ∷ []) ys (passes-last (has_worded_script m words (script x)) (x ∷ before) one whole) whole
-      ]
-
 -- the cuts inside runs
 
 module _ (m : AnyMachine) (payloads : Payloads) (one other : ℕ) where
@@ -103,7 +38,7 @@ module _ (m : AnyMachine) (payloads : Payloads) (one other : ℕ) where
       inner_cuts m payloads (first ++ other ∷ ys) ≡ inner_cuts m payloads first ++ later_places (length first) (inner_cuts m payloads (other ∷ ys))
   cuts-edge edge before ys =
       let first = before ++ one ∷ [] in
-      ap offsets (edge-within m payloads.words (in-span (boundaries_by payloads.clusters)) refl one other edge (length before) before ys (omega arith))
+      ap offsets (edge-split m payloads.words (in-span (boundaries_by payloads.clusters)) refl one other edge before ys)
       ∙ offsets-append (later_boundaries (inner_stretch m payloads) first) (shift_all (length first) (later_boundaries (inner_stretch m payloads) (other ∷ ys)))
       ∙ ap (λ places. inner_cuts m payloads first ++ places) (later-offsets (length first) (later_boundaries (inner_stretch m payloads) (other ∷ ys)))
 
@@ -139,17 +74,6 @@ one-from [] last place behind (inl is) = absurd (omega (arith, behind, is))
 one-from [] last place behind (inr is) = absurd is
 one-from (found ∷ some) last place behind (inl is) = inl (omega (arith, is))
 one-from (found ∷ some) last place behind (inr is) = inr (one-from some last place behind is)
-
--- one boundary stands behind the start of one code point
-record IsOne (boundaries : List Boundary) : Type 0 where
-  last : Boundary
-  is : boundaries ≡ last ∷ []
-  after_start : 0 < last.offset
-
-one-boundary : (boundaries : List Boundary) → RisesTo 0 boundaries 1 → IsOne boundaries
-one-boundary [] rises = absurd (omega (arith, rises))
-one-boundary (last ∷ []) rises = record { last = last; is = refl; after_start = rises.0 }
-one-boundary (found ∷ next ∷ boundaries) rises = absurd (omega (arith, rises.0, rises.1.0, rises-le boundaries next.offset 1 rises.1.1))
 
 -- joined
 

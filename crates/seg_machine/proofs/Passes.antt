@@ -1,7 +1,7 @@
 -- What is found once of the places that no scan passes.
 use Rattle.std.proofs.Common.{◌≡◌, ◌≢◌, ℕ, suc, ◌+◌, ◌*◌, ◌<◌, ◌≤◌, ◌^◌, ◌%◌, ◌/◌, true, List, [], ◌∷◌, ◌++◌, Contains, length, slice_index, bit_and, bit_or, refl, sym, ap, ◌∙◌, subst, inl, inr, arith, eq-eqb}
 use native.Mathlib.Nat.{suc-mul}
-use Rattle.std.specs.Prelude.{◌↔◌, ◌⊎◌, IfSome, IsTrue, Option, Some, None, slice_get, slice_index_or, is_some, nat_eq}
+use Rattle.std.specs.Prelude.{◌↔◌, ◌⊎◌, IfSome, IsTrue, Option, Some, None, slice_get, slice_index_or, nat_eq}
 use Rattle.std.specs.Int.{bit_at, w128}
 use Rattle.std.proofs.lemmas.Bool.{cases_lt, eqb-true}
 use Rattle.std.proofs.lemmas.List.{get_or_append_left, get_or_default, get_or_push, length_push}
@@ -9,28 +9,17 @@ use Rattle.std.proofs.lemmas.List.Elements.{Contains-append_left}
 use Rattle.std.proofs.lemmas.Nat.{mul-le}
 use Rattle.std.proofs.lemmas.Nat.Bits.{bit_at-zero, bit_at_or, bit_at_set_same, bit_at_set_other, shr_and_one}
 use Rattle.std.proofs.lemmas.Option.{get_or_from_slice_get}
-use Rattle.seg_data.proofs.Options.{option-cases}
+use Rattle.seg_data.proofs.Options.{if-some, option-cases}
 use Rattle.seg_machine.specs.Certain.{GoesOnBy, IsCertain, StopsBetween}
 use Rattle.seg_machine.specs.Machine.{Machine, step, symbol_count}
 use Rattle.seg_machine.specs.MachineFaults.{IsChecked}
 use Rattle.seg_machine.specs.Passes.{AllGoOn, AllStop, ArePasses, AreStates, AreStatesBehind, HasMoreMasks, IsMask, IsMaskBehind, IsStopMask, PassData}
 use Rattle.seg_machine.proofs.Entries.{in-range}
 
--- what holds of each value an option may be, holds of what it is
-pub if-for : {A : Type 0} (found : Option A) (holds : A → Type 0) → ((x : A) → found ≡ Some x → holds x) → IfSome found holds
-if-for None holds for = tt
-if-for (Some x) holds for = for x refl
-
-pub if-some : {A : Type 0} (found : Option A) (holds : A → Type 0) (x : A) → IfSome found holds → found ≡ Some x → holds x
-if-some {A} found holds x if is = subst (λ (found : Option A). IfSome found holds) is if
-
+-- what follows of each value follows of an option
 if-more : {A : Type 0} (found : Option A) (one other : A → Type 0) → ((x : A) → one x → other x) → IfSome found one → IfSome found other
 if-more None one other more if = tt
 if-more (Some x) one other more if = more x if
-
-pub some-of : {A : Type 0} (found : Option A) → is_some found ≡ true → (x : A) × (found ≡ Some x)
-some-of None is = cc
-some-of (Some x) is = (x, refl)
 
 none-some : {A : Type 0} (x : A) → None ≡ Some x → ⊥
 none-some x is = cc
@@ -271,19 +260,19 @@ rows-more m old new count rows more =
       ];
     }
 
-pub passes-found : (m : Machine) (masks : List ℕ) (count row : ℕ) → AreRows m masks count → count ≡ symbol_count m → row ≡ symbol_count m → symbol_count m ≤ 128
-    → ArePasses m (record { masks = masks; row = row })
-passes-found m masks count row rows all is few = (
+pub passes-found : (m : Machine) (masks : List ℕ) (count known : ℕ) → AreRows m masks count → count ≡ symbol_count m → known ≡ symbol_count m → symbol_count m ≤ 128
+    → ArePasses m (record { masks = masks; symbols = known })
+passes-found m masks count known rows all is few = (
   λ _. record {
-    row = is;
+    symbols = is;
     size = rows.size ∙ ap (λ (count : ℕ). count * symbol_count m) all;
     stand = λ before one less within. rows.stand before one (omega (arith, less, all)) within;
   },
   λ many. absurd (omega (arith, many, few)),
 )
 
-pub no-passes : (m : Machine) (row : ℕ) → 128 < symbol_count m → ArePasses m (record { masks = []; row = row })
-no-passes m row many = (λ few. absurd (omega (arith, many, few)), λ _. refl)
+pub no-passes : (m : Machine) (known : ℕ) → 128 < symbol_count m → ArePasses m (record { masks = []; symbols = known })
+no-passes m known many = (λ few. absurd (omega (arith, many, few)), λ _. refl)
 
 -- ---- a mask that is read
 
@@ -293,16 +282,16 @@ few-masks m passes place mask are is = elim (cases_lt 128 (symbol_count m)) [
   | inr few ↦ omega (arith, few)
 ]
 
-module _ (m : Machine) (passes : PassData) (are : ArePasses m passes) (before one other mask : ℕ) (is : slice_get passes.masks (before * passes.row + one) ≡ Some mask) where
+module _ (m : Machine) (passes : PassData) (are : ArePasses m passes) (before one other mask : ℕ) (is : slice_get passes.masks (before * passes.symbols + one) ≡ Some mask) where
   pub few-symbols : symbol_count m ≤ 128
-  few-symbols = few-masks m passes (before * passes.row + one) mask are is
+  few-symbols = few-masks m passes (before * passes.symbols + one) mask are is
 
   pub mask-says : before < symbol_count m → one < symbol_count m → other < symbol_count m
       → IsTrue (nat_eq (bit_and (mask / 2 ^ other) 1) 0) ↔ IsCertain m before one other
   mask-says less within below =
       let has = are.0 few-symbols in
       let read : slice_index passes.masks (before * symbol_count m + one) ≡ mask =
-      ap (λ (row : ℕ). slice_index passes.masks (before * row + one)) (sym has.row) ∙ get_or_from_slice_get passes.masks (before * passes.row + one) mask 0 is in
+      ap (λ (symbols : ℕ). slice_index passes.masks (before * symbols + one)) (sym has.symbols) ∙ get_or_from_slice_get passes.masks (before * passes.symbols + one) mask 0 is in
       let bits = subst (IsMask m before one) read (has.stand before one less within) other below in
       let bit = shr_and_one mask other in
       (λ true. bits.0 (sym bit ∙ eqb-true _ 0 true), λ certain. eq-eqb _ 0 (bit ∙ bits.1 certain))

@@ -16,8 +16,8 @@ GoesOnBy m state symbol =
 abbrev pub NeverBreaks : Machine → ℕ → ℕ → Type 0
 NeverBreaks m one other = (state : ℕ) → state < length m.states → IfSome (step m state one) (λ next. GoesOnBy m next other)
 
--- no scan passes between the last two of three symbols: none that read the first, in whatever state, and none that starts behind it; or where that one
--- may, none starts there
+-- no scan passes between the last two of three symbols: none that read the first, in whatever state; nor one that starts right behind it, unless
+-- none starts there, since no segment ends there
 abbrev pub IsCertain : Machine → ℕ → ℕ → ℕ → Type 0
 IsCertain m before one other =
     ((state : ℕ) → state < length m.states → IfSome (step m state before) (λ next. StopsBetween m next one other))

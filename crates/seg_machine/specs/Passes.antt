@@ -4,27 +4,27 @@ use Rattle.std.specs.Int.{bit_at}
 use Rattle.seg_machine.specs.Certain.{GoesOnBy, IsCertain, StopsBetween}
 use Rattle.seg_machine.specs.Machine.{Machine, step, symbol_count}
 
--- a bit for each symbol: 0 where no scan passes to it from the second of two others
+-- a number that has a bit for each symbol: 0 where no scan passes to it from the second of two others
 abbrev pub IsMask : Machine → ℕ → ℕ → ℕ → Type 0
 IsMask m before one mask = (other : ℕ) → other < symbol_count m → (bit_at mask other ≡ 0) ↔ IsCertain m before one other
 
--- such numbers for each two symbols, and how many symbols there are
+-- a mask for each two symbols, and how many symbols there are
 pub record PassData : Type 0 where
   pub masks : List ℕ
-  pub row : ℕ
+  pub symbols : ℕ
 
 pub record HasMasks (m : Machine) (passes : PassData) : Type 0 where
-  pub row : passes.row ≡ symbol_count m
+  pub symbols : passes.symbols ≡ symbol_count m
   pub size : length passes.masks ≡ symbol_count m * symbol_count m
   pub stand : (before one : ℕ) → before < symbol_count m → one < symbol_count m → IsMask m before one (slice_index passes.masks (before * symbol_count m + one))
 
--- up to 128 symbols have them, more have none
+-- machines of up to 128 symbols have them, others have none
 abbrev pub ArePasses : Machine → PassData → Type 0
 ArePasses m passes = (symbol_count m ≤ 128 → HasMasks m passes) × (128 < symbol_count m → passes.masks ≡ [])
 
 -- How they are found.
 
--- a bit for each symbol: 0 where the state has no step by it
+-- a number that has a bit for each symbol: 0 where the state has no step by it
 abbrev pub IsStepMask : Machine → ℕ → ℕ → Type 0
 IsStepMask m state mask = (symbol : ℕ) → symbol < symbol_count m → (bit_at mask symbol ≡ 0) ↔ (step m state symbol ≡ None)
 
@@ -52,7 +52,7 @@ AllStop m states one other = (place : ℕ) → place < length states → StopsBe
 abbrev pub AllGoOn : Machine → List ℕ → ℕ → Type 0
 AllGoOn m states symbol = (place : ℕ) → place < length states → GoesOnBy m (slice_index_or states place 0) symbol
 
--- a bit for each symbol: 0 where no scan passes to it from the one, which it reads in some of these states, or starts at, if one may start there
+-- a number that has a bit for each symbol: 0 where no scan passes to it from the one, which it reads in one of these states, or starts at, if one may
 abbrev pub IsMaskBehind : Machine → List ℕ → ℕ → ℕ → Type 0
 IsMaskBehind m states one mask =
     (other : ℕ) → other < symbol_count m → (bit_at mask other ≡ 0) ↔ (AllStop m states one other × ((StopsBetween m 0 one other → ⊥) → AllGoOn m states one))

@@ -118,7 +118,7 @@ pub struct Passes {
     // A bit for each symbol: 0 where none passes to it.
     masks: Vec<u128>,
     // How many symbols there are, and so how many masks have one first symbol.
-    row: u8,
+    symbols: u8,
 }
 
 impl Model for Passes {
@@ -126,7 +126,7 @@ impl Model for Passes {
 
     ghost Value = { PassData };
 
-    ghost view = { λ s. record { masks = s.masks.items; row = s.row } };
+    ghost view = { λ s. record { masks = s.masks.items; symbols = s.symbols } };
 }
 
 impl Passes {
@@ -140,7 +140,7 @@ impl Passes {
         let symbols = symbols_in(machine);
         let mut masks = Vec::new(alloc);
         if symbols > MOST_SYMBOLS {
-            return Ok(Passes { masks, row: 0 });
+            return Ok(Passes { masks, symbols: 0 });
         }
         let steps = step_masks(alloc, machine)?;
         for before in 0..symbols {
@@ -148,15 +148,15 @@ impl Passes {
         }
         Ok(Passes {
             masks,
-            row: symbols as u8,
+            symbols: symbols as u8,
         })
     }
 
     /// The mask of two symbols, if they have one.
     fn mask(&self, before: Symbol, one: Symbol) -> Option<u128>
-        ensures { result ≡ slice_get self.now.masks (before * self.now.row + one) }
+        ensures { result ≡ slice_get self.now.masks (before * self.now.symbols + one) }
     {
-        let place = before as usize * self.row as usize + one as usize;
+        let place = before as usize * self.symbols as usize + one as usize;
         self.masks.get(place).copied()
     }
 }

@@ -9,7 +9,7 @@ use Rattle.seg_text.specs.Items.{IsRising, Item, Text, code_points, place_of, re
 use Rattle.seg_text.proofs.Places.{in-shift}
 use Rattle.seg_clusters.specs.Certain.{AlwaysBreaks, BeginsBetween, above}
 use Rattle.seg_clusters.specs.Rules.{PartsBehind}
-use Rattle.seg_clusters.proofs.SplitItems.{later-codes, later-place}
+use Rattle.seg_text.proofs.LaterItems.{later-codes, later-place}
 use Rattle.seg_segments.specs.declared.cursor.certain.Start.{Start}
 use Rattle.seg_segments.specs.NearBoundaries.{IsPart, IsTold, MayBegin, boundaries_of_units, line_feed, places_of_units}
 use Rattle.seg_segments.specs.TextSegments.{IsPlace, later_text}

@@ -15,8 +15,8 @@ use Rattle.seg_text.proofs.Covers.{rises-le}
 use Rattle.seg_text.proofs.Places.{IsRising-drop, in-append, in-shift}
 use Rattle.seg_clusters.proofs.Begins.{last-later}
 use Rattle.seg_clusters.specs.Certain.{AlwaysBreaks, SplitsBetween, without_last}
-use Rattle.seg_clusters.proofs.SplitItems.{later-codes, later-place, place-front}
-use Rattle.seg_segments.specs.Lemmas.Rests.{items-later}
+use Rattle.seg_text.proofs.LaterItems.{items-later, later-codes, later-place}
+use Rattle.seg_clusters.proofs.SplitItems.{place-front}
 use Rattle.seg_segments.specs.TextSegments.{IsPlace}
 use Rattle.seg_segments.specs.NearBoundaries.{SplitsAt, boundaries_of_units, up_to}
 use Rattle.seg_segments.proofs.Certain.{ReadsTwo, certain-here, reads-next}

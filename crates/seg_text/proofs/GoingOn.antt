@@ -1,30 +1,19 @@
 -- Where lists of code points may be cut anew from their boundaries, texts may too: behind one of them come those of the rest.
-use Rattle.std.proofs.Common.{◌≡◌, ℕ, zero, suc, ◌+◌, ◌≤◌, List, [], ◌∷◌, ◌++◌, map, take, drop, length, slice_get, refl, sym, ap, ap₂, ◌∙◌, arith}
+use Rattle.std.proofs.Common.{◌≡◌, ℕ, zero, suc, ◌+◌, List, [], ◌∷◌, ◌++◌, map, take, drop, length, slice_get, refl, sym, ap, ap₂, ◌∙◌, arith}
 use Rattle.std.specs.Prelude.{Some, Contains}
-use Rattle.std.proofs.lemmas.List.{length-drop, drop-map, drop_more, take-append-drop}
+use Rattle.std.proofs.lemmas.List.{drop-map, drop_more, take-append-drop}
 use Rattle.std.proofs.lemmas.Option.{slice_get_read}
 use Rattle.seg_text.specs.declared.boundary.Boundary.{Boundary}
-use Rattle.seg_text.specs.Items.{Item, Reader, Text, place_of, start_of, rest_after, code_points, items_by, text_by}
+use Rattle.seg_text.specs.Items.{Item, Reader, Text, place_of, start_of, rest_after, code_points, text_by}
 use Rattle.seg_text.specs.Boundaries.{HasRestart, RestartsIn, boundary_in, boundaries_in, offsets}
-use Rattle.seg_text.specs.Lemmas.Readers.{IsReader, items_by-nil, items_by-cons}
+use Rattle.seg_text.specs.Lemmas.Readers.{IsReader}
 use Rattle.seg_text.specs.Decoding.{read_latin1, latin1, latin1_items, read_utf8, utf8, utf8_items, read_utf16, utf16, utf16_items}
 use Rattle.seg_text.specs.Lemmas.Rising.{read_latin1-reader}
 use Rattle.seg_text.specs.Lemmas.Utf8Stable.{read_utf8-stable}
 use Rattle.seg_text.specs.Lemmas.Utf16Stable.{read_utf16-stable}
 use Rattle.seg_text.proofs.Cursors.{seek-text}
+use Rattle.seg_text.proofs.LaterItems.{items-later, later-codes, later-place}
 use Rattle.seg_text.proofs.Places.{code_points-drop, in-shift}
-
--- items so much later
-abbrev later_items : ℕ → List Item → List Item
-later_items before items = map (λ (item : Item). (before + item.0, item.1)) items
-
-later-codes : (before : ℕ) (items : List Item) → code_points (later_items before items) ≡ code_points items
-later-codes before [] = refl
-later-codes before (item ∷ items) = ap (λ codes. item.1 ∷ codes) (later-codes before items)
-
-later-place : (before end : ℕ) (items : List Item) → place_of (later_items before items) (before + end) ≡ before + place_of items end
-later-place before end [] = refl
-later-place before end (item ∷ items) = refl
 
 -- what is found at an index was found before it was mapped
 mapped : {X Y : Type 0} (f : X → Y) (xs : List X) (k : ℕ) (y : Y) → slice_get (map f xs) k ≡ Some y → (x : X) × (slice_get xs k ≡ Some x) × (f x ≡ y)
@@ -33,20 +22,6 @@ mapped f (x ∷ xs) zero y is = (x, refl, cc)
 mapped f (x ∷ xs) (suc k) y is = mapped f xs k y is
 
 module _ (read : Reader ℕ) (reader : IsReader read) where
-  -- items from a later place on are the same, so much later
-  items-within : (most before place : ℕ) (units : List ℕ) → length units ≤ most → items_by read (before + place) units ≡ later_items before (items_by read place units)
-  items-within most before place [] bound = items_by-nil read (before + place) ∙ sym (ap (later_items before) (items_by-nil read place))
-  items-within zero before place (unit ∷ units) bound = absurd (omega arith)
-  items-within (suc most) before place (unit ∷ units) bound =
-      let found = read (unit ∷ units) in
-      let left = drop found.0 (unit ∷ units) in
-      let fewer : length left ≤ most = omega (arith, length-drop found.0 (unit ∷ units), reader.some unit units) in
-      let sum : before + place + found.0 ≡ before + (place + found.0) = omega arith in
-      items_by-cons read reader (before + place) unit units
-      ∙ ap (λ at. (before + place, found.1) ∷ items_by read at left) sum
-      ∙ ap (λ later. (before + place, found.1) ∷ later) (items-within most before (place + found.0) left fewer)
-      ∙ sym (ap (later_items before) (items_by-cons read reader place unit units))
-
   module _ (from : ℕ) (units : List ℕ) where
     abbrev there : Text
     there = text_by read from units
@@ -54,18 +29,13 @@ module _ (read : Reader ℕ) (reader : IsReader read) where
     abbrev alone : Text
     alone = text_by read 0 units
 
-    items-later : there.items ≡ later_items from alone.items
-    items-later =
-        let same : from ≡ from + 0 = omega arith in
-        ap (λ place. items_by read place units) same ∙ items-within (length units) from 0 units (omega arith)
-
     codes-there : code_points there.items ≡ code_points alone.items
-    codes-there = ap code_points items-later ∙ later-codes from alone.items
+    codes-there = ap code_points (items-later read reader from units) ∙ later-codes from alone.items
 
     place-there : (n : ℕ) → start_of (rest_after n there) ≡ from + start_of (rest_after n alone)
     place-there n =
         let end : 0 + length units ≡ length units = omega arith in
-        ap (λ items. place_of (drop n items) (from + length units)) items-later
+        ap (λ items. place_of (drop n items) (from + length units)) (items-later read reader from units)
         ∙ ap (λ items. place_of items (from + length units)) (drop-map (λ (item : Item). (from + item.0, item.1)) n alone.items)
         ∙ later-place from (length units) (drop n alone.items)
         ∙ ap (λ end. from + place_of (drop n alone.items) end) (sym end)

@@ -18,3 +18,4 @@ pub mod Encodings
 pub mod Passing
 pub mod Filling
 pub mod GoingOn
+pub mod LaterItems

@@ -1,17 +1,18 @@
 -- Certain places of words by a machine: where another span begins, or inside a piece between runs.
 use Rattle.std.proofs.Common.{◌≡◌, ℕ, zero, suc, ◌+◌, ◌<◌, ◌≤◌, inl, inr, Bool, true, false, List, [], ◌∷◌, ◌++◌, Contains, length, take, drop, refl, sym, ap, ap₂, ◌∙◌, subst, arith, append_assoc, append-nil, length-append, eq-eqb}
+use Rattle.std.specs.Prelude.{◌↔◌}
 use Rattle.std.specs.List.{prefix_len}
 use Rattle.std.proofs.lemmas.Bool.{cases_lt, eqb-true}
-use Rattle.std.proofs.lemmas.List.{drop_all, length-drop, drop-append-le}
+use Rattle.std.proofs.lemmas.List.{length-drop, drop-append-le}
 use Rattle.std.proofs.lemmas.List.Elements.{Contains-append_left, Contains-append_right}
 use Rattle.seg_text.specs.declared.boundary.Boundary.{Boundary}
 use Rattle.seg_text.specs.Boundaries.{offsets, shift, shift_all, start, later_boundaries, list_boundaries, IsCover, RisesTo}
 use Rattle.seg_text.proofs.Covers.{covers-list, rises-le}
-use Rattle.seg_text.proofs.Places.{shifted-append, shifted-none, shifted-twice}
+use Rattle.seg_text.proofs.Places.{shifted-append, shifted-twice}
 use Rattle.seg_text.proofs.Stretches.{later-nil}
 use Rattle.seg_data.specs.declared.provider.ComplexScript.{ComplexScript}
 use Rattle.seg_data.specs.declared.provider.ComplexScript.TheVariants.{None as NoScript}
-use Rattle.seg_data.specs.ScriptWords.{words_in}
+use Rattle.seg_data.specs.ScriptWords.{ScriptWords, no_words, words_in}
 use Rattle.seg_machine.specs.Machine.{Machine}
 use Rattle.seg_machine.specs.MachineFaults.{IsChecked}
 use Rattle.seg_machine.specs.Pick.{machine_stretch}
@@ -22,13 +23,14 @@ use Rattle.seg_clusters.specs.Rules.{Rules, boundaries_by}
 use Rattle.seg_clusters.specs.Rules.Rules.{ByMachine}
 use Rattle.seg_clusters.specs.Scripts.{CoverPieces, script_number}
 use Rattle.seg_clusters.specs.Spans.{IsOutsideRuns, IsSpanEdge, has_worded_script, span_length, worded_script}
-use Rattle.seg_clusters.proofs.Begins.{splits-begin}
+use Rattle.seg_clusters.proofs.Begins.{one-boundary, splits-begin}
 use Rattle.seg_clusters.proofs.Certain.{certain-breaks}
 use Rattle.seg_clusters.proofs.CertainParts.{certain-splits, last-off}
 use Rattle.seg_clusters.proofs.Cutting.{offsets-append}
 use Rattle.seg_clusters.proofs.Pieces.{same-number}
 use Rattle.seg_clusters.proofs.SpanStretches.{span-inside, span-some}
-use Rattle.seg_clusters.proofs.SplitSpans.{drop-past, next, passes-all, passes-last, passes-some, piece-first, take-past, take-within}
+use Rattle.seg_clusters.proofs.SplitSpans.{drop-past, edge-split, next, passes-all, passes-some, piece-first, take-past, take-within}
+use Rattle.seg_clusters.proofs.UnwordedSpans.{unworded}
 use Rattle.seg_words.specs.WordRules.{WordRules, WordsAreCertain, WordsAreCertainWith, span_boundaries, span_stretch, stretch_by, word_boundaries_by}
 use Rattle.seg_words.proofs.Spans.{spans-within, taken-rises}
 
@@ -83,11 +85,6 @@ last-apart found (next ∷ boundaries) =
 ends-some : (boundaries : List Boundary) (n : ℕ) → 0 < n → RisesTo 0 boundaries n → (front : List Boundary) × (end : Boundary) × (boundaries ≡ front ++ end ∷ [])
 ends-some [] n some rises = absurd (omega (arith, some, rises))
 ends-some (found ∷ boundaries) n some rises = last-apart found boundaries
-
-ends-one : (boundaries : List Boundary) → RisesTo 0 boundaries 1 → (end : Boundary) × (boundaries ≡ end ∷ [])
-ends-one [] rises = absurd (omega (arith, rises))
-ends-one (found ∷ []) rises = (found, refl)
-ends-one (found ∷ next ∷ boundaries) rises = absurd (omega (arith, rises.0, rises.1.0, rises-le boundaries next.offset 1 rises.1.1))
 
 -- a list and what stands alone have their boundaries in common up to a place, where one stands; behind it the list has those of the rest, and what
 -- stands alone its end
@@ -152,75 +149,35 @@ module _ (m : Machine) (payloads : Payloads) (checked : IsChecked m) (cover : Co
 
   -- ---- where another span begins
 
-  module _ (one other : ℕ) (edge : IsSpanEdge m payloads.words one other) where
-    at-other : (back : List ℕ) → Parts m payloads (other ∷ back) (other ∷ []) (other ∷ back) 0
-    at-other back =
-        let (end, is) = ends-one (later (other ∷ [])) (covers-list (span_stretch m payloads) (spans-within m payloads checked cover) (other ∷ [])).1 in
-        record { front = []; end = end; ends = is; goes_on = sym (shifted-none (later (other ∷ back))); stands = (0, omega arith, refl) }
+  module _ (before one other : ℕ) (edge : IsSpanEdge m payloads.words one other) (earlier : List ℕ) where
+    abbrev first : List ℕ
+    first = (earlier ++ before ∷ []) ++ one ∷ []
 
-    -- a span of the script of the one ends before the other
-    ends-before : (x : ℕ) (xs back : List ℕ) → script x ≡ script one → span_length m payloads.words (x ∷ xs) ≡ length (x ∷ xs)
-        → span_length m payloads.words ((x ∷ xs) ++ other ∷ back) ≡ length (x ∷ xs)
-    ends-before x xs back same all = on (has_worded_script m payloads.words (script x) other) refl
-      where
-        on : (b : Bool) → has_worded_script m payloads.words (script x) other ≡ b → span_length m payloads.words ((x ∷ xs) ++ other ∷ back) ≡ length (x ∷ xs)
-        on true here = absurd (edge (sym (same-number (script other) (script x) (eqb-true _ _ here) ∙ same)))
-        on false here =
-            let none : prefix_len (has_worded_script m payloads.words (script x)) (other ∷ back) ≡ 0 = rw here refl in
-            omega (arith, none, passes-all (has_worded_script m payloads.words (script x)) (x ∷ xs) (other ∷ back) all)
+    up-to : length first ≡ length earlier + 2
+    up-to = omega (arith, length-append (earlier ++ before ∷ []) (one ∷ []), length-append earlier (before ∷ []))
 
-    at-end : (x : ℕ) (xs back : List ℕ) → script x ≡ script one → span_length m payloads.words (x ∷ xs) ≡ length (x ∷ xs)
-        → Parts m payloads ((x ∷ xs) ++ other ∷ back) ((x ∷ xs) ++ other ∷ []) (other ∷ back) (length (x ∷ xs))
-    at-end x xs back same all =
-        let none : drop (length (x ∷ xs)) (x ∷ xs) ≡ [] = drop_all (length (x ∷ xs)) (x ∷ xs) (omega arith) in
-        let place : length (x ∷ xs) + 0 ≡ length (x ∷ xs) = omega arith in
-        subst (λ place. Parts m payloads ((x ∷ xs) ++ other ∷ back) ((x ∷ xs) ++ other ∷ []) (other ∷ back) place) place
-        (behind-span x xs (other ∷ back) (other ∷ []) (other ∷ back) (length (x ∷ xs)) 0 (omega arith)
-        (ends-before x xs back same all) (ends-before x xs [] same all)
-        (subst (λ (left : List ℕ). Parts m payloads (left ++ other ∷ back) (left ++ other ∷ []) (other ∷ back) 0) (sym none) (at-other back)))
+    split-at : (back : List ℕ) → later (earlier ++ before ∷ one ∷ other ∷ back) ≡ later first ++ shift_all (length earlier + 2) (later (other ∷ back))
+    split-at back =
+        sym (ap later (append_assoc (earlier ++ before ∷ []) (one ∷ []) (other ∷ back) ∙ append_assoc earlier (before ∷ []) (one ∷ other ∷ back)))
+        ∙ edge-split m payloads.words (span_boundaries m (boundaries_by payloads.clusters)) (later-nil (machine_stretch m)) one other edge (earlier ++ before ∷ []) back
+        ∙ ap (λ n. later first ++ shift_all n (later (other ∷ back))) up-to
 
-    edge-within : (most : ℕ) (earlier back : List ℕ) → length earlier ≤ most
-        → Parts m payloads ((earlier ++ one ∷ []) ++ other ∷ back) ((earlier ++ one ∷ []) ++ other ∷ []) (other ∷ back) (suc (length earlier))
-    edge-within most [] back bound =
-        let here : has_worded_script m payloads.words (script one) one ≡ true = eq-eqb _ _ refl in
-        let all : span_length m payloads.words (one ∷ []) ≡ 1 = rw here refl in
-        at-end one [] back refl all
-    edge-within zero (x ∷ earlier) back bound = absurd (omega arith)
-    edge-within (suc most) (x ∷ earlier) back bound =
-        let all : List ℕ = x ∷ (earlier ++ one ∷ []) in
-        let passes : ℕ → Bool = has_worded_script m payloads.words (script x) in
-        let n : ℕ = span_length m payloads.words all in
-        let size : length all ≡ suc (suc (length earlier)) = omega (arith, length-append earlier (one ∷ [])) in
-        let inside = span-inside m payloads.words all in
-        elim (cases_lt n (length all)) [
-          | inl less ↦
-              let left : drop n all ≡ drop n (x ∷ earlier) ++ one ∷ [] = drop-append-le n (x ∷ earlier) (one ∷ []) (omega (arith, less, size)) in
-              let count = length-drop n (x ∷ earlier) in
-              let fewer : length (drop n (x ∷ earlier)) ≤ most = omega (arith, count, span-some m payloads.words x (earlier ++ one ∷ [])) in
-              let place : n + suc (length (drop n (x ∷ earlier))) ≡ suc (length (x ∷ earlier)) = omega (arith, count, less, size) in
-              subst (λ place. Parts m payloads (all ++ other ∷ back) (all ++ other ∷ []) (other ∷ back) place) place
-              (behind-span x (earlier ++ one ∷ []) (other ∷ back) (other ∷ []) (other ∷ back) n (suc (length (drop n (x ∷ earlier)))) inside
-              (passes-some passes all (other ∷ back) less) (passes-some passes all (other ∷ []) less)
-              (subst (λ (xs : List ℕ). Parts m payloads (xs ++ other ∷ back) (xs ++ other ∷ []) (other ∷ back) (suc (length (drop n (x ∷ earlier))))) (sym left)
-              (edge-within most (drop n (x ∷ earlier)) back fewer)))
-          | inr past ↦
-              let whole : n ≡ length all = omega (arith, past, inside) in
-              let last : passes one ≡ true = passes-last passes (x ∷ earlier) one whole in
-              let same : script x ≡ script one = sym (same-number (script one) (script x) (eqb-true _ _ last)) in
-              subst (λ place. Parts m payloads (all ++ other ∷ back) (all ++ other ∷ []) (other ∷ back) place) size
-              (at-end x (earlier ++ one ∷ []) back same whole)
-        ]
-
-  edge-parts : (before one other : ℕ) → IsSpanEdge m payloads.words one other → (earlier back : List ℕ)
-      → Parts m payloads (earlier ++ before ∷ one ∷ other ∷ back) (earlier ++ before ∷ one ∷ other ∷ []) (other ∷ back) (length earlier + 2)
-  edge-parts before one other edge earlier back =
-      let joined : (ys : List ℕ) → ((earlier ++ before ∷ []) ++ one ∷ []) ++ other ∷ ys ≡ earlier ++ before ∷ one ∷ other ∷ ys =
-      λ ys. append_assoc (earlier ++ before ∷ []) (one ∷ []) (other ∷ ys) ∙ append_assoc earlier (before ∷ []) (one ∷ other ∷ ys) in
-      let place : suc (length (earlier ++ before ∷ [])) ≡ length earlier + 2 = omega (arith, length-append earlier (before ∷ [])) in
-      subst (λ (whole : List ℕ). Parts m payloads whole (earlier ++ before ∷ one ∷ other ∷ []) (other ∷ back) (length earlier + 2)) (joined back)
-      (subst (λ (alone : List ℕ). Parts m payloads (((earlier ++ before ∷ []) ++ one ∷ []) ++ other ∷ back) alone (other ∷ back) (length earlier + 2)) (joined [])
-      (subst (λ place. Parts m payloads (((earlier ++ before ∷ []) ++ one ∷ []) ++ other ∷ back) (((earlier ++ before ∷ []) ++ one ∷ []) ++ other ∷ []) (other ∷ back) place) place
-      (edge-within one other edge (length (earlier ++ before ∷ [])) (earlier ++ before ∷ []) back (omega arith))))
+    edge-parts : (back : List ℕ) → Parts m payloads (earlier ++ before ∷ one ∷ other ∷ back) (earlier ++ before ∷ one ∷ other ∷ []) (other ∷ back) (length earlier + 2)
+    edge-parts back =
+        let place : ℕ = length earlier + 2 in
+        let covers = covers-list (span_stretch m payloads) (spans-within m payloads checked cover) in
+        let alone = one-boundary (later (other ∷ [])) (covers (other ∷ [])).1 in
+        let rises : RisesTo 0 (later first) place = subst (λ n. RisesTo 0 (later first) n) up-to (covers first).1 in
+        record {
+          front = later first;
+          end = shift place alone.last;
+          ends = split-at [] ∙ ap (λ (found : List Boundary). later first ++ shift_all place found) alone.is;
+          goes_on = split-at back;
+          stands =
+              subst (λ (later : List Boundary). Contains (offsets (start ∷ later)) place) (sym (split-at back))
+              (place-right (start ∷ []) (later first ++ shift_all place (later (other ∷ back))) place
+              (place-left (later first) (shift_all place (later (other ∷ back))) place (place-end (later first) 0 place (omega arith) rises)));
+        }
 
   -- ---- inside a piece between runs
 
@@ -357,6 +314,18 @@ module _ (m : Machine) (payloads : Payloads) (checked : IsChecked m) (cover : Co
         ap (λ (boundaries : List Boundary). without_last (start ∷ boundaries)) found.ends ∙ last-off (start ∷ found.front) found.end in
         ap (λ (boundaries : List Boundary). start ∷ boundaries) found.goes_on
         ∙ sym (ap (λ (boundaries : List Boundary). boundaries ++ shift_all (length earlier + 2) (later (other ∷ back))) front)
+
+-- without dictionaries it tells whether a scan passes
+pub certain-undivided : (m : Machine) (words : ScriptWords) → words ≡ no_words → (before one other : ℕ)
+    → AreCertain (ByMachine m) before one other ↔ WordsAreCertainWith (ByMachine m) words before one other
+certain-undivided m words none before one other =
+    let outside : (c : ℕ) → IsOutsideRuns m words c = λ c. ap (λ (words : ScriptWords). worded_script m words c) none ∙ unworded m c in (
+      λ certain. inr (outside before, outside one, outside other, certain),
+      λ found. elim found [
+        | inl edge ↦ absurd (edge (outside one ∙ sym (outside other)))
+        | inr (first, second, third, certain) ↦ certain
+      ],
+    )
 
 -- of rules that are a machine
 

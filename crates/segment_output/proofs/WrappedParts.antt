@@ -13,7 +13,8 @@ use Rattle.seg_text.specs.Items.{IsRising, Item, Text, code_points, place_of, st
 use Rattle.seg_text.specs.Lemmas.Utf8Stable.{read_utf8-stable}
 use Rattle.seg_text.proofs.Places.{IsRising-drop}
 use Rattle.seg_clusters.proofs.Encoded.{utf8-apart}
-use Rattle.seg_clusters.proofs.SplitItems.{items-split, later-codes, later-place, later_items}
+use Rattle.seg_text.proofs.LaterItems.{later-codes, later-place, later_items}
+use Rattle.seg_clusters.proofs.SplitItems.{items-split}
 use Rattle.seg_clusters.specs.Rules.{PartsBehind}
 use Rattle.seg_lines.specs.LineBreaks.{LineRules, line_boundaries_of}
 use Rattle.seg_lines.specs.Between.{between}

@@ -1,5 +1,6 @@
 use Rattle.std.proofs.Common.{sym, ◌∙◌}
-use Rattle.seg_machine.proofs.Passes.{if-some, mask-says}
+use Rattle.seg_data.proofs.Options.{if-some}
+use Rattle.seg_machine.proofs.Passes.{mask-says}
 use Rattle.seg_machine.proofs.certain.is_certain.Goals as goal
 
 pub returns-in-Some-mask : goal.returns-in-Some-mask

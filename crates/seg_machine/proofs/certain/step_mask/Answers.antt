@@ -1,6 +1,7 @@
 use Rattle.std.proofs.Common.{sym, ◌∙◌, arith}
 use Rattle.seg_data.proofs.Options.{none-of}
-use Rattle.seg_machine.proofs.Passes.{no-steps, some-of, step-with, step-without}
+use Rattle.seg_data.proofs.Options.{some-of}
+use Rattle.seg_machine.proofs.Passes.{no-steps, step-with, step-without}
 use Rattle.seg_machine.proofs.certain.step_mask.Goals as goal
 use Rattle.seg_machine.proofs.certain.step_mask.Goals.{then-is_some, else-is_some}
 

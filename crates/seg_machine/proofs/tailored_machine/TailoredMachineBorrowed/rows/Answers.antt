@@ -1,4 +1,4 @@
-use Rattle.seg_machine.proofs.Passes.{if-for}
+use Rattle.seg_data.proofs.Options.{if-for}
 use Rattle.seg_machine.proofs.tailored_machine.TailoredMachineBorrowed.rows.Goals as goal
 
 pub returns : goal.returns
