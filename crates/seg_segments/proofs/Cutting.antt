@@ -31,22 +31,24 @@ pub record MayEnd (MayCut : ℕ → Type 0) (to end : ℕ) : Type 0 where
   pub within : to ≤ end
   pub may : MayCut to
 
-pub next-end : {S M : Type 0} (MayCut : ℕ → Type 0) (left : S → List (ℕ × M)) (from to end : ℕ) (mark : M) (before after : S)
-    → AreCuts MayCut from (left before) end → YieldsFirst left before (Some (to, mark)) after → MayEnd MayCut to end
-next-end MayCut left from to end mark before after cuts gives =
-    let parts : AreCuts MayCut from ((to, mark) ∷ left after) end = rw gives at cuts in
-    record { within = cuts-within MayCut to end (left after) parts.1.1; may = cuts-start MayCut to end (left after) parts.1.1 }
+pub next-end : {M : Type 0} (MayCut : ℕ → Type 0) (mark : ℕ → M) (from end : ℕ) (found : Boundary) (before after : List Boundary)
+    → AreCuts MayCut from (marked mark before) end → before ≡ found ∷ after → MayEnd MayCut found.offset end
+next-end MayCut mark from end found before after cuts gives =
+    let parts : AreCuts MayCut from (marked mark (found ∷ after)) end = rw gives at cuts in record {
+      within = cuts-within MayCut found.offset end (marked mark after) parts.1.1;
+      may = cuts-start MayCut found.offset end (marked mark after) parts.1.1;
+    }
 
-pub none-left : {S M : Type 0} (left : S → List (ℕ × M)) (units : List ℕ) (from : ℕ) (before after : S) (owed : List (Segment M))
-    → segments_from units from (left before) ≡ owed → YieldsFirst left before None after → (owed ≡ []) × (segments_from units from (left after) ≡ [])
+pub none-left : {M : Type 0} (mark : ℕ → M) (units : List ℕ) (from : ℕ) (before after : List Boundary) (owed : List (Segment M))
+    → segments_from units from (marked mark before) ≡ owed → (before ≡ []) × (after ≡ []) → (owed ≡ []) × (segments_from units from (marked mark after) ≡ [])
 unfolding segments_from
-none-left left units from before after owed is gives = (sym is ∙ ap (segments_from units from) gives.0, rw gives.1 refl)
+none-left mark units from before after owed is none = (sym is ∙ ap (λ boundaries. segments_from units from (marked mark boundaries)) none.0, rw none.1 refl)
 
-pub first-left : {S M : Type 0} (left : S → List (ℕ × M)) (units part : List ℕ) (from to : ℕ) (mark : M) (before after : S) (owed : List (Segment M))
-    → segments_from units from (left before) ≡ owed → YieldsFirst left before (Some (to, mark)) after → part ≡ between from to units
-    → owed ≡ record { offset = from; units = part; mark = mark } ∷ segments_from units to (left after)
+pub first-left : {M : Type 0} (mark : ℕ → M) (units part : List ℕ) (from : ℕ) (found : Boundary) (said : M) (before after : List Boundary) (owed : List (Segment M))
+    → segments_from units from (marked mark before) ≡ owed → before ≡ found ∷ after → part ≡ between from found.offset units → said ≡ mark found.status
+    → owed ≡ record { offset = from; units = part; mark = said } ∷ segments_from units found.offset (marked mark after)
 unfolding segments_from
-first-left left units part from to mark before after owed is gives cut = sym is ∙ rw (gives, cut) refl
+first-left mark units part from found said before after owed is gives cut says = sym is ∙ rw (gives, cut, says) refl
 
 -- ---- all segments
 
@@ -59,20 +61,20 @@ cuts-of MayCut mark text (one ∷ counted) from end may is rises =
     (may from is, (rises.0, cuts-of MayCut mark text counted (boundary_in text one).offset end may (record { before = one.offset; at = refl }) rises.1))
 
 -- and where that at its start was given, it may be cut at the others
-pub after-start : {S M : Type 0} (MayCut : ℕ → Type 0) (mark : ℕ → M) (text : Text) (find : List ℕ → List Boundary) (left : S → List Boundary) (end : ℕ)
-    (before after : S) (given : Option (ℕ × M)) → ((place : ℕ) → IsPlace text place → MayCut place)
-    → left before ≡ boundaries_in find text → IsCover 0 end (left before) → YieldsFirst (λ (s : S). marked mark (left s)) before given after
-    → (marked mark (left after) ≡ drop 1 (marked mark (left before))) × AreCuts MayCut 0 (marked mark (left after)) end
-after-start {S} {M} MayCut mark text find left end before after given may found cover gives = on given gives (find (code_points text.items)) found (rw found at cover)
+pub after-start : {M : Type 0} (MayCut : ℕ → Type 0) (mark : ℕ → M) (text : Text) (find : List ℕ → List Boundary) (end : ℕ) (before after : List Boundary)
+    (given : Option Boundary) → ((place : ℕ) → IsPlace text place → MayCut place) → before ≡ boundaries_in find text → IsCover 0 end before
+    → YieldsFirst (λ (s : List Boundary). s) before given after
+    → (marked mark after ≡ drop 1 (marked mark before)) × AreCuts MayCut 0 (marked mark after) end
+after-start MayCut mark text find end before after given may found cover gives = on given gives (find (code_points text.items)) found (rw found at cover)
   where
-    on : (given : Option (ℕ × M)) → YieldsFirst (λ (s : S). marked mark (left s)) before given after → (counted : List Boundary)
-        → left before ≡ map (boundary_in text) counted → IsCover 0 end (map (boundary_in text) counted)
-        → (marked mark (left after) ≡ drop 1 (marked mark (left before))) × AreCuts MayCut 0 (marked mark (left after)) end
+    on : (given : Option Boundary) → YieldsFirst (λ (s : List Boundary). s) before given after → (counted : List Boundary)
+        → before ≡ map (boundary_in text) counted → IsCover 0 end (map (boundary_in text) counted)
+        → (marked mark after ≡ drop 1 (marked mark before)) × AreCuts MayCut 0 (marked mark after) end
     on given gives [] found cover = absurd cover
-    on None gives (one ∷ counted) found cover = absurd (omega (arith, ap length (sym (ap (marked mark) found) ∙ gives.0)))
+    on None gives (one ∷ counted) found cover = absurd (omega (arith, ap length (sym found ∙ gives.0)))
     on (Some first) gives (one ∷ counted) found cover =
-        let rest : marked mark (left after) ≡ marked mark (map (boundary_in text) counted) = ap (drop 1) (sym gives ∙ ap (marked mark) found) in (
-          ap (drop 1) (sym gives),
+        let rest : after ≡ map (boundary_in text) counted = ap (drop 1) (sym gives ∙ found) in (
+          ap (λ boundaries. drop 1 (marked mark boundaries)) (sym gives),
           rw rest (cuts-of MayCut mark text counted 0 end may (record { before = one.offset; at = sym cover.0 }) cover.1),
         )
 

@@ -124,13 +124,6 @@ found-covers words find cs cover =
 
 -- ---- the next boundary that stays
 
--- places with what their statuses say, of which those stay
-abbrev pub kept_of : {M : Type 0} → Words → Bool → Text → List (ℕ × M) → List (ℕ × M)
-kept_of words joined text breaks = filter (λ (one : ℕ × _). stays words joined text one.0) breaks
-
-abbrev pub places_of : {M : Type 0} → List (ℕ × M) → List ℕ
-places_of breaks = map (λ (one : ℕ × _). one.0) breaks
-
 ascend-earlier : (from later : ℕ) (places : List ℕ) → from ≤ later → AscendFrom later places → AscendFrom from places
 ascend-earlier from later [] order all = tt
 ascend-earlier from later (place ∷ places) order all = (omega (arith, order, all.0), all.1)
@@ -139,8 +132,9 @@ pub ascend-any : (from : ℕ) (places : List ℕ) → AscendFrom from places →
 ascend-any from [] all = tt
 ascend-any from (place ∷ places) all = all.1
 
-pub kept-later : {M : Type 0} (words : Words) (place : ℕ) (joined : Bool) (text : Text) (next : Bool) (left : Text) (breaks : List (ℕ × M))
-    → IsLater words place joined text next left → AscendFrom place (places_of breaks) → kept_of words next left breaks ≡ kept_of words joined text breaks
+-- where less is left of the text
+pub kept-later : (words : Words) (place : ℕ) (joined : Bool) (text : Text) (next : Bool) (left : Text) (boundaries : List Boundary)
+    → IsLater words place joined text next left → AscendFrom place (offsets boundaries) → left_of words next left boundaries ≡ left_of words joined text boundaries
 kept-later words place joined text next left [] later all = refl
-kept-later words place joined text next left (one ∷ breaks) later all =
-    rw (later.end, later.same one.0 all.0, kept-later words place joined text next left breaks later (ascend-earlier place one.0 (places_of breaks) all.0 all.1)) refl
+kept-later words place joined text next left (one ∷ boundaries) later all =
+    rw (later.end, later.same one.offset all.0, kept-later words place joined text next left boundaries later (ascend-earlier place one.offset (offsets boundaries) all.0 all.1)) refl

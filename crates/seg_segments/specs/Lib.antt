@@ -8,3 +8,4 @@ pub mod SegmentsLeft
 pub mod NearBoundaries
 pub mod SuppressedLeft
 pub mod Suppressing
+pub mod HeldBoundaries

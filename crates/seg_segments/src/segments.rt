@@ -20,6 +20,7 @@ ghost use Rattle.seg_segments.specs.TextSegments.{indices_of, marked, segments_o
 ghost use Rattle.seg_segments.specs.SegmentsLeft.{indices_left, segments_left, words_left};
 
 mod cluster_breaks;
+mod held;
 mod line_breaks;
 mod places;
 mod sentence_breaks;
@@ -27,6 +28,7 @@ mod source;
 mod units;
 mod word_breaks;
 
+pub use held::Held;
 pub use places::Places;
 use seg_words::word::WordType;
 pub use source::Source;
@@ -69,6 +71,17 @@ pub trait BreakIterator: Drop + Sized {
     fn next_break(&mut self) -> Option<(usize, Self::Mark)>
         ensures { YieldsFirst (λ s. marked mark (left s)) self.old result self.new };
 
+    /// What a status says.
+    fn mark_of(status: u8) -> Self::Mark
+        ensures { result ≡ mark status };
+
+    /// Writes the places of the next boundaries over the first of `places` and their statuses over the first of `statuses`, as many as
+    /// there are and both have room for, and returns how many. The next call goes on behind them. Takes no memory.
+    fn fill_both(&mut self, places: &mut [usize], statuses: &mut [u8]) -> usize
+        ensures places { TakesFirst (min (length places.old) (length statuses.old)) (offsets (left self.old)) places.old places.new result }
+        ensures marks { TakesFirst (min (length places.old) (length statuses.old)) (all_statuses (left self.old)) statuses.old statuses.new result }
+        ensures left { left self.new ≡ drop result (left self.old) };
+
     /// Writes the places of the next boundaries over the first of `places`, as many as there are and there is room for, and returns
     /// how many. The next call goes on behind them. Takes no memory.
     fn fill(&mut self, places: &mut [usize]) -> usize
@@ -82,20 +95,6 @@ pub trait BreakIterator: Drop + Sized {
             }
         }
         places.len()
-    }
-
-    /// Writes the next boundaries with what their statuses say, as `fill` writes their places.
-    final fn fill_marked(&mut self, found: &mut [(usize, Self::Mark)]) -> usize
-        ensures filled { IsFilled (marked mark (left self.old)) found.old found.new result }
-        ensures left { marked mark (left self.new) ≡ drop result (marked mark (left self.old)) }
-    {
-        for index in 0..found.len() {
-            match self.next_break() {
-                Some(next) => found[index] = next,
-                None => return index,
-            }
-        }
-        found.len()
     }
 
     /// The places of the boundaries that are left, found many at a time. Takes no memory.
@@ -145,8 +144,8 @@ pub trait BreakIterator: Drop + Sized {
         ensures few { length result ≤ length (whole self) }
     {
         let text = self.text();
-        let mut breaks = self;
-        let _start = breaks.next_break();
+        let mut breaks = Held::new(self);
+        let _start = breaks.next();
         MarkedSegments {
             breaks,
             text,
@@ -174,20 +173,6 @@ pub trait ForkBreaks: BreakIterator {
         ensures { result ≡ self.now };
 }
 
-/// An iterator over the boundaries of a text which gives their statuses as they are, and says what each means.
-pub trait StatusBreaks: BreakIterator {
-    /// What a status says.
-    fn mark_of(status: u8) -> Self::Mark
-        ensures { result ≡ Self.mark status };
-
-    /// Writes the places of the next boundaries over the first of `places` and their statuses over the first of `statuses`, as many as
-    /// there are and both have room for, and returns how many. The next call goes on behind them. Takes no memory.
-    fn fill_both(&mut self, places: &mut [usize], statuses: &mut [u8]) -> usize
-        ensures places { TakesFirst (min (length places.old) (length statuses.old)) (offsets (Self.left self.old)) places.old places.new result }
-        ensures marks { TakesFirst (min (length places.old) (length statuses.old)) (all_statuses (Self.left self.old)) statuses.old statuses.new result }
-        ensures left { Self.left self.new ≡ drop result (Self.left self.old) };
-}
-
 /// An iterator over the boundaries of words.
 pub trait WordBreaks: BreakIterator<Mark = WordType> {
     /// The words of a text, each with the place where it begins and its type: those segments whose type isn't `None`. Takes no memory.
@@ -207,7 +192,7 @@ pub trait WordBreaks: BreakIterator<Mark = WordType> {
 /// None it stays None.
 #[derive(Drop)]
 pub struct MarkedSegments<B: BreakIterator> {
-    breaks: B,
+    breaks: Held<B>,
     text: B::Units,
     from: usize,
 }
@@ -224,9 +209,9 @@ impl<B: BreakIterator> Model for MarkedSegments<B> {
 
     ghost Value = { List (Segment B.Mark) };
 
-    ghost view = { λ s. segments_from (B.Units.units s.text) s.from (marked B.mark (B.left s.breaks)) };
+    ghost view = { λ s. segments_from (B.Units.units s.text) s.from (marked B.mark s.breaks) };
 
-    ghost invariant = { λ s. AreCuts (B.Units.MayCut s.text) s.from (marked B.mark (B.left s.breaks)) (length (B.Units.units s.text)) };
+    ghost invariant = { λ s. AreCuts (B.Units.MayCut s.text) s.from (marked B.mark s.breaks) (length (B.Units.units s.text)) };
 }
 
 impl<B: ForkBreaks> MarkedSegments<B> {
@@ -261,10 +246,14 @@ impl<B: BreakIterator> Iterator for MarkedSegments<B> {
 
     #[inline(always)]
     fn next(&mut self) -> Option<(usize, B::Units, B::Mark)> {
-        let (to, mark) = self.breaks.next_break()?;
+        let end = self.breaks.next()?;
         let from = self.from;
-        self.from = to;
-        Some((from, self.text.part(from, to), mark))
+        self.from = end.offset;
+        Some((
+            from,
+            self.text.part(from, end.offset),
+            B::mark_of(end.status),
+        ))
     }
 
     // Each segment that is left has a unit or more, and the last ends with the text.

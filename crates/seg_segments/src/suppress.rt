@@ -114,8 +114,8 @@ impl<'data, B: BreakIterator, I: Cursor> Iterator for SuppressedBreaks<'data, B,
     ghost remaining = { item_count suppressed_places };
 
     fn next(&mut self) -> Option<usize> {
-        let (place, _) = self.kept.next_break()?;
-        Some(place)
+        let found = self.kept.next_boundary()?;
+        Some(found.offset)
     }
 
     fn size_hint(&self) -> (usize, Option<usize>) {
@@ -147,7 +147,26 @@ impl<'data, B: BreakIterator, I: Cursor> BreakIterator for SuppressedBreaks<'dat
     }
 
     fn next_break(&mut self) -> Option<(usize, B::Mark)> {
-        self.kept.next_break()
+        let found = self.kept.next_boundary()?;
+        Some((found.offset, B::mark_of(found.status)))
+    }
+
+    fn mark_of(status: u8) -> B::Mark
+        ensures { result ≡ B.mark status }
+    {
+        B::mark_of(status)
+    }
+
+    fn fill_both(&mut self, places: &mut [usize], statuses: &mut [u8]) -> usize {
+        let room = places.len().min(statuses.len());
+        for index in 0..room {
+            let Some(found) = self.kept.next_boundary() else {
+                return index;
+            };
+            places[index] = found.offset;
+            statuses[index] = found.status;
+        }
+        room
     }
 }
 

@@ -529,7 +529,9 @@ impl<'data> WordSegmenterBorrowed<'data> {
     {
         match self.engine {
             Engine::Classic(_) => false,
-            Engine::Neo(_) if self.payloads.dictionaries.is_empty() => self.engine.always_breaks(before, one, other),
+            Engine::Neo(_) if self.payloads.dictionaries.is_empty() => self
+                .engine
+                .always_breaks(before, one, other),
             Engine::Neo(machine) => {
                 let dictionaries = self.payloads.dictionaries;
                 begins_span(machine, dictionaries, one, other)

@@ -1,8 +1,8 @@
 pub mod GivenParagraphs
 pub mod BareLines
+mod Counting
 pub mod BareObjects
 pub mod Gathered
-pub mod HeldBoundaries
 pub mod JoinedCuts
 pub mod LineEnds
 pub mod MarkedPlaces

@@ -1,10 +1,11 @@
 -- One boundary more ends one segment more, if it is shown.
-use Rattle.std.proofs.Common.{◌≡◌, ℕ, ◌+◌, ◌^◌, ◌<◌, arith, Bool, true, false, Option, None, Some, List, [], ◌∷◌, ◌++◌, drop, map, filter, refl, sym, ap, ◌∙◌, append-nil}
+use Rattle.std.proofs.Common.{◌≡◌, ℕ, ◌+◌, ◌^◌, ◌<◌, arith, Bool, true, false, Option, None, Some, List, [], ◌∷◌, ◌++◌, drop, map, filter, length, refl, sym, ap, ◌∙◌, append-nil, length-append}
+use Rattle.std.proofs.lemmas.Bool.{true≢false}
 use Rattle.std.proofs.lemmas.Option.{none-some}
 use Rattle.std.proofs.lemmas.List.{map-append}
 use Rattle.std.proofs.lemmas.List.Elements.{filter-append}
 use Rattle.std.specs.List.{zip}
-use Rattle.std.specs.Option.{option_map}
+use Rattle.std.specs.Option.{is_some, option_map}
 use Rattle.segment_output.specs.Output.{Segment, ended, is_shown, segment_between, segments}
 use Rattle.segment_output.specs.declared.marks.Mark.{Mark}
 
@@ -87,3 +88,22 @@ module _ (alone : Bool) where
     pub segments-first : option_map (λ boundary. boundary.0) (last boundaries) ≡ None → segments alone (boundaries ++ end ∷ []) ≡ segments alone boundaries
     segments-first none =
         more-is ∙ ap (λ more. segments alone boundaries ++ more) (none-before (last boundaries) end none) ∙ append-nil (segments alone boundaries)
+
+-- how many segments there are, where one place more comes: none ends at the first
+no-start : (start : Option (ℕ × Mark)) → is_some start ≡ false → option_map (λ (boundary : ℕ × Mark). boundary.0) start ≡ None
+no-start None is = refl
+no-start (Some start) is = absurd (true≢false is)
+
+one-ended : (start : Option (ℕ × Mark)) (end : ℕ × Mark) → is_some start ≡ true → length (ended (option_map (λ (boundary : ℕ × Mark). boundary.0) start) end) ≡ 1
+one-ended (Some start) end is = refl
+one-ended None end is = absurd (true≢false (sym is))
+
+pub counted-first : (alone : Bool) (found : List (ℕ × Mark)) (end : ℕ × Mark) → is_some (last found) ≡ false → segments alone (found ++ end ∷ []) ≡ segments alone found
+counted-first alone found end none = segments-first alone found end (no-start (last found) none)
+
+pub counted-more : (alone : Bool) (found : List (ℕ × Mark)) (end : ℕ × Mark) → is_some (last found) ≡ true → is_shown alone end.1 ≡ true
+    → length (segments alone (found ++ end ∷ [])) ≡ length (segments alone found) + 1
+counted-more alone found end some shown =
+    ap (λ (found : List Segment). length found) (segments-more alone found end shown)
+    ∙ length-append (segments alone found) (ended (option_map (λ (boundary : ℕ × Mark). boundary.0) (last found)) end)
+    ∙ ap (λ n. length (segments alone found) + n) (one-ended (last found) end some)

@@ -1,6 +1,5 @@
 pub mod Paragraphs
 pub mod Gathered
-pub mod HeldBoundaries
 pub mod Limited
 pub mod Objects
 pub mod Output

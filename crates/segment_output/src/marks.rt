@@ -6,8 +6,7 @@ ghost use Rattle.segment_output.specs.Output.{is_shown, is_word, shown_boundarie
 ghost use Rattle.segment_output.specs.declared.marks.Mark.TheVariants.{Unmarked, Word, Line, Rule};
 
 use icu_segmenter::options::WordType;
-use icu_segmenter::segments::{BreakIterator, Places, StatusBreaks};
-use std::marker::Model;
+use icu_segmenter::segments::{BreakIterator, Held, Places};
 
 /// What is said of a segment beside its places.
 #[derive(Clone, Copy, PartialEq, Eq)]
@@ -112,73 +111,14 @@ impl Limit for UpTo {
     }
 }
 
-// How many boundaries are found at a time.
-const ROOM: usize = 64;
-
-/// The boundaries that an iterator has still to give, found many at a time. After None it stays None.
-#[derive(Drop)]
-pub struct Held<B: StatusBreaks> {
-    breaks: B,
-    // The places of those that were found, and their statuses: from `next` to `end` they weren't given yet.
-    places: [usize; ROOM],
-    statuses: [u8; ROOM],
-    next: usize,
-    end: usize,
-}
-
-impl<B: StatusBreaks> Model for Held<B> {
-    ghost use Rattle.std.specs.Prelude.{List, ◌≤◌, ◌++◌};
-    ghost use Rattle.icu_segmenter.specs.Boundary.{Boundary};
-    ghost use Rattle.segment_output.specs.HeldBoundaries.{held_boundaries};
-
-    ghost Value = { List Boundary };
-
-    ghost view = { λ s. held_boundaries s.next s.end s.places s.statuses ++ B.left s.breaks };
-
-    ghost invariant = { λ s. (s.next ≤ s.end) × (s.end ≤ 64) };
-}
-
-impl<B: StatusBreaks> Held<B> {
-    /// What is left of some boundaries. Takes no memory.
-    pub fn new(breaks: B) -> Self
-        ensures { result ≡ B.left breaks }
-    {
-        Held {
-            breaks,
-            places: [0; ROOM],
-            statuses: [0; ROOM],
-            next: 0,
-            end: 0,
-        }
-    }
-
-    /// The next boundary, as its place and what its status says. None at the end, and from then on.
-    #[inline(always)]
-    pub fn next_break(&mut self) -> Option<(usize, B::Mark)>
-        ensures { YieldsFirst (λ held. marked B.mark held) self.old result self.new }
-    {
-        if self.next == self.end {
-            self.end = self.breaks.fill_both(&mut self.places, &mut self.statuses);
-            self.next = 0;
-            if self.end == 0 {
-                return None;
-            }
-        }
-        let place = self.places[self.next];
-        let status = self.statuses[self.next];
-        self.next += 1;
-        Some((place, B::mark_of(status)))
-    }
-}
-
 /// The boundaries that an iterator has still to give up to a limit, each with the mark of the segment that ends there.
 #[derive(Drop)]
-pub struct Marked<B: StatusBreaks, L: Limit> {
+pub struct Marked<B: BreakIterator, L: Limit> {
     pub breaks: Held<B>,
     pub limit: L,
 }
 
-impl<M: HasMark, B: StatusBreaks<Mark = M>, L: Limit> Iterator for Marked<B, L> {
+impl<M: HasMark, B: BreakIterator<Mark = M>, L: Limit> Iterator for Marked<B, L> {
     type Item = (usize, Mark);
 
     ghost next_gives = { YieldsFirst (λ s. marked (λ status. M.said (B.mark status)) (shown_boundaries (L.holds s.limit) s.breaks)) };
@@ -187,9 +127,9 @@ impl<M: HasMark, B: StatusBreaks<Mark = M>, L: Limit> Iterator for Marked<B, L> 
 
     #[inline(always)]
     fn next(&mut self) -> Option<(usize, Mark)> {
-        while let Some(end) = self.breaks.next_break() {
-            if self.limit.admits(end.0) {
-                return Some((end.0, end.1.mark()));
+        while let Some(end) = self.breaks.next() {
+            if self.limit.admits(end.offset) {
+                return Some((end.offset, B::mark_of(end.status).mark()));
             }
         }
         None
@@ -223,12 +163,12 @@ impl<B: BreakIterator, L: Limit> Iterator for Bare<B, L> {
 
 /// The boundaries by rules of the caller's own that an iterator has still to give up to a limit, each with its status.
 #[derive(Drop)]
-pub struct Ruled<B: StatusBreaks, L: Limit> {
+pub struct Ruled<B: BreakIterator, L: Limit> {
     pub breaks: Held<B>,
     pub limit: L,
 }
 
-impl<B: StatusBreaks<Mark = bool>, L: Limit> Iterator for Ruled<B, L> {
+impl<B: BreakIterator<Mark = bool>, L: Limit> Iterator for Ruled<B, L> {
     type Item = (usize, Mark);
 
     ghost next_gives = { YieldsFirst (λ s. marked (λ status. Rule (B.mark status)) (shown_boundaries (L.holds s.limit) s.breaks)) };
@@ -237,9 +177,9 @@ impl<B: StatusBreaks<Mark = bool>, L: Limit> Iterator for Ruled<B, L> {
 
     #[inline(always)]
     fn next(&mut self) -> Option<(usize, Mark)> {
-        while let Some(end) = self.breaks.next_break() {
-            if self.limit.admits(end.0) {
-                return Some((end.0, Mark::Rule(end.1)));
+        while let Some(end) = self.breaks.next() {
+            if self.limit.admits(end.offset) {
+                return Some((end.offset, Mark::Rule(B::mark_of(end.status))));
             }
         }
         None

@@ -82,8 +82,31 @@ pub fn print_segments<N: Iterator<Item = (usize, Mark)>, O: Write>(
 {
     match part.style {
         Style::Json => print_objects(alloc, places, alone, part, out),
+        Style::Counted(_) => count_segments(places, alone),
         _ => print_lines(alloc, places, alone, part, out),
     }
+}
+
+// Counts the segments between each two places that come, or words alone.
+fn count_segments<N: Iterator<Item = (usize, Mark)>>(
+    places: &mut N,
+    alone: bool,
+) -> io::Result<usize>
+    requires can { N.can_next places.old }
+    requires ends { IsFinite (N.remaining places.old) }
+    ensures { IfOk result (λ count. (given : List (ℕ × Mark)) × YieldsThen N.next_gives places.old given None places.new
+        × (count ≡ length (segments alone given))) }
+{
+    let mut count: usize = 0;
+    let mut has_begun = false;
+    'places: while let Some(end) = places.next() {
+        if !has_begun {
+            has_begun = true;
+        } else if end.1.is_shown(alone) {
+            count = one_more(count)?;
+        }
+    }
+    Ok(count)
 }
 
 // Writes the segments of a part in any style.
@@ -114,10 +137,7 @@ fn print_lines<N: Iterator<Item = (usize, Mark)>, O: Write>(
         } else if has_begun {
             count = one_more(count)?;
             let segment = Segment { start, end, mark };
-            match part.style {
-                Style::Counted(_) => {}
-                _ => push_long(part, segment, &mut stretch, &mut lines, out)?,
-            }
+            push_long(part, segment, &mut stretch, &mut lines, out)?;
         } else {
             has_begun = true;
         }

@@ -18,7 +18,7 @@ ghost use Rattle.segment_output.specs.Splits.{IsSplit};
 ghost use Rattle.segment_output.specs.TextSegmenter.{anywhere_by, boundaries_by, cluster_rules_by, line_rules_by, line_rules_of, segments_in, sentence_rules_by, suppressed_finder, word_rules_by, IsAskedOf};
 ghost use Rattle.segment_output.specs.declared.marks.Mark.TheVariants.{Rule, Unmarked};
 
-use crate::marks::{Bare, HasMark, Held, Limit, Marked, Ruled};
+use crate::marks::{Bare, HasMark, Limit, Marked, Ruled};
 use crate::output::{Part, print_segments};
 use crate::vocabulary::Vocabulary;
 use icu_segmenter::cursor::{BoundaryFinder, last_split};
@@ -26,7 +26,7 @@ use icu_segmenter::options::{LineBreakOptions, LineBreakStrictness};
 use icu_segmenter::provider::{
     DataError, Dictionaries, LineTailoringsBorrowed, SegmenterStateMachine,
 };
-use icu_segmenter::segments::{BreakIterator, StatusBreaks};
+use icu_segmenter::segments::{BreakIterator, Held};
 use icu_segmenter::suppress::{Abbreviations, SuppressingSegmenter};
 use icu_segmenter::{
     GraphemeClusterSegmenter, LineSegmenter, LineSegmenterBorrowed, SentenceSegmenter,
@@ -154,7 +154,7 @@ fn print_unmarked<B: BreakIterator<Mark = ()>, L: Limit, O: Write>(
 
 // Writes the segments between the boundaries that come up to the limit, or words alone, with what is said of each.
 #[inline(always)]
-fn print_marked<M: HasMark, B: StatusBreaks<Mark = M>, L: Limit, O: Write>(
+fn print_marked<M: HasMark, B: BreakIterator<Mark = M>, L: Limit, O: Write>(
     alloc: Global,
     found: Found<B, L>,
     alone: bool,
@@ -175,7 +175,7 @@ fn print_marked<M: HasMark, B: StatusBreaks<Mark = M>, L: Limit, O: Write>(
 
 // Writes the segments between the boundaries that come up to the limit, or words alone. What is said of each is worked out only where that is asked for.
 #[inline(always)]
-fn print_breaks<M: HasMark, B: StatusBreaks<Mark = M>, L: Limit, O: Write>(
+fn print_breaks<M: HasMark, B: BreakIterator<Mark = M>, L: Limit, O: Write>(
     alloc: Global,
     found: Found<B, L>,
     alone: bool,
@@ -200,7 +200,7 @@ fn print_breaks<M: HasMark, B: StatusBreaks<Mark = M>, L: Limit, O: Write>(
 // Writes the segments between the boundaries that come up to the limit by rules of the caller's own, or those alone that end at one
 // without status 1.
 #[inline(always)]
-fn print_ruled<B: StatusBreaks<Mark = bool>, L: Limit, O: Write>(
+fn print_ruled<B: BreakIterator<Mark = bool>, L: Limit, O: Write>(
     alloc: Global,
     found: Found<B, L>,
     alone: bool,

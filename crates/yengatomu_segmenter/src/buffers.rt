@@ -7,7 +7,7 @@ ghost use Rattle.icu_segmenter.specs.Filled.{IsFilled, TakesFirst};
 ghost use Rattle.yengatomu_segmenter.specs.Marks.{number_of_type};
 
 use icu_segmenter::options::WordType;
-use icu_segmenter::segments::{BreakIterator, StatusBreaks, WordBreaks};
+use icu_segmenter::segments::{BreakIterator, WordBreaks};
 
 /// What is said of a segment, as a number.
 pub trait Mark: Copy {
@@ -73,7 +73,7 @@ fn put_later(places: &mut [usize], count: usize, from: usize)
 }
 
 /// Writes the first boundaries as `fill` does, with their marks, as many as both buffers have room for, many at a time.
-pub fn fill_both<M: Mark, B: StatusBreaks<Mark = M>>(
+pub fn fill_both<M: Mark, B: BreakIterator<Mark = M>>(
     breaks: B,
     from: usize,
     places: &mut [usize],
@@ -93,40 +93,13 @@ pub fn fill_both<M: Mark, B: StatusBreaks<Mark = M>>(
 }
 
 // So many statuses, each as the number of what it says.
-fn put_marks<M: Mark, B: StatusBreaks<Mark = M>>(marks: &mut [u8], count: usize)
+fn put_marks<M: Mark, B: BreakIterator<Mark = M>>(marks: &mut [u8], count: usize)
     requires { count ≤ length marks.old }
     ensures { marks.new ≡ map (λ status. M.number (B.mark status)) (take count marks.old) ++ drop count marks.old }
 {
     for index in 0..count {
         marks[index] = B::mark_of(marks[index]).number();
     }
-}
-
-/// Writes the first boundaries as `fill_both` does, one after another.
-pub fn fill_marked<M: Mark, B: BreakIterator<Mark = M>>(
-    breaks: B,
-    from: usize,
-    places: &mut [usize],
-    marks: &mut [u8],
-) -> usize
-    requires cover { IsCover 0 (length (B.whole breaks)) (B.left breaks) }
-    requires fits { from + length (B.whole breaks) < 2 ^ 64 }
-    ensures places { TakesFirst (min (length places.old) (length marks.old)) (map (λ place. from + place) (offsets (drop 1 (B.left breaks)))) places.old places.new result }
-    ensures marks { TakesFirst (min (length places.old) (length marks.old)) (map (λ boundary. M.number (B.mark boundary.status)) (drop 1 (B.left breaks))) marks.old marks.new result }
-{
-    let mut breaks = breaks;
-    let _start = breaks.next_break();
-    let room = places.len().min(marks.len());
-    for index in 0..room {
-        match breaks.next_break() {
-            Some(found) => {
-                places[index] = from + found.0;
-                marks[index] = found.1.number();
-            }
-            None => return index,
-        }
-    }
-    room
 }
 
 /// How many segments there are.

@@ -13,12 +13,9 @@ use crate::segmenter::{Segmenter, suppressing};
 use icu_segmenter::cursor::{BoundaryCursor, CursorText, SegmenterOf};
 use icu_segmenter::segments::{Source, Units};
 
-// Asks the segmenter that is held, of whatever kind it is; in another way where abbreviations suppress boundaries.
+// Asks the segmenter that is held, of whatever kind it is.
 macro_rules! by_kind {
     ($segmenter:expr, $held:ident => $answer:expr) => {
-        by_kind!($segmenter, $held => $answer, suppressing => $answer)
-    };
-    ($segmenter:expr, $held:ident => $answer:expr, suppressing => $other:expr) => {
         match $segmenter {
             Segmenter::Clusters(s) => {
                 let $held = s.as_borrowed();
@@ -35,7 +32,7 @@ macro_rules! by_kind {
                 }
                 Some(a) => {
                     let $held = suppressing(s, a);
-                    $other
+                    $answer
                 }
             },
             Segmenter::Lines(s, _) => {
@@ -90,9 +87,6 @@ where
     by_kind!(segmenter, held => {
         let found = SegmenterOf::<I>::breaks(&held, rest);
         buffers::fill_both(found, from, places, marks)
-    }, suppressing => {
-        let found = SegmenterOf::<I>::breaks(&held, rest);
-        buffers::fill_marked(found, from, places, marks)
     })
 }
 

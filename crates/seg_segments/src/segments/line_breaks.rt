@@ -4,7 +4,7 @@ ghost use Rattle.std.specs.Prelude.{◌≡◌, ◌==◌};
 ghost use Rattle.seg_lines.specs.LineBreaks.{line_boundaries_by};
 ghost use Rattle.seg_lines.specs.Lines.{line_finder, lines_left, lines_source};
 
-use crate::segments::{BreakIterator, ForkBreaks, Source, StatusBreaks, copy_of};
+use crate::segments::{BreakIterator, ForkBreaks, Source, copy_of};
 use seg_lines::line::LineBreakIterator;
 
 impl<'data, I: Source> BreakIterator for LineBreakIterator<'data, I> {
@@ -34,18 +34,6 @@ impl<'data, I: Source> BreakIterator for LineBreakIterator<'data, I> {
         Some((place, self.is_mandatory()))
     }
 
-    fn fill(&mut self, places: &mut [usize]) -> usize {
-        self.fill(places)
-    }
-}
-
-impl<'data, I: Source> ForkBreaks for LineBreakIterator<'data, I> {
-    fn fork(&self) -> Self {
-        copy_of(self)
-    }
-}
-
-impl<'data, I: Source> StatusBreaks for LineBreakIterator<'data, I> {
     fn mark_of(status: u8) -> bool
         ensures { result ≡ (status == 1) }
     {
@@ -54,5 +42,15 @@ impl<'data, I: Source> StatusBreaks for LineBreakIterator<'data, I> {
 
     fn fill_both(&mut self, places: &mut [usize], statuses: &mut [u8]) -> usize {
         self.fill_both(places, statuses)
+    }
+
+    fn fill(&mut self, places: &mut [usize]) -> usize {
+        self.fill(places)
+    }
+}
+
+impl<'data, I: Source> ForkBreaks for LineBreakIterator<'data, I> {
+    fn fork(&self) -> Self {
+        copy_of(self)
     }
 }

@@ -10,10 +10,12 @@ use std::marker::Model;
 // How many are found at a time.
 const ROOM: usize = 64;
 
-/// The places of the boundaries that an iterator has still to give. After None it stays None.
+/// The places of the boundaries that an iterator has still to give, found 64 at a time. After None it stays None.
 #[derive(Drop)]
 pub struct Places<B: BreakIterator> {
     breaks: B,
+    // The whole text. (The kit covers callers of a type with a `Model` only where one of its fields names their lifetime.)
+    text: B::Units,
     // Those that were found: from `next` to `end` they weren't given yet.
     held: [usize; ROOM],
     next: usize,
@@ -21,12 +23,13 @@ pub struct Places<B: BreakIterator> {
 }
 
 impl<B: BreakIterator> Model for Places<B> {
-    ghost use Rattle.std.specs.Prelude.{ℕ, List, ◌≤◌, ◌++◌, ◌-◌, drop, take};
+    ghost use Rattle.std.specs.Prelude.{ℕ, List, ◌≤◌, ◌++◌};
     ghost use Rattle.seg_text.specs.Boundaries.{offsets};
+    ghost use Rattle.seg_segments.specs.HeldBoundaries.{held_from};
 
     ghost Value = { List ℕ };
 
-    ghost view = { λ s. take (s.end - s.next) (drop s.next s.held) ++ offsets (B.left s.breaks) };
+    ghost view = { λ s. held_from s.next s.end s.held ++ offsets (B.left s.breaks) };
 
     ghost invariant = { λ s. (s.next ≤ s.end) × (s.end ≤ 64) };
 }
@@ -36,8 +39,10 @@ impl<B: BreakIterator> Places<B> {
     pub(crate) fn new(breaks: B) -> Self
         ensures { result ≡ offsets (B.left breaks) }
     {
+        let text = breaks.text();
         Places {
             breaks,
+            text,
             held: [0; ROOM],
             next: 0,
             end: 0,

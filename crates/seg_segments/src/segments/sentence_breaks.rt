@@ -5,7 +5,7 @@ ghost use Rattle.seg_clusters.specs.Rules.{boundaries_by};
 ghost use Rattle.seg_clusters.specs.Clusters.{sentence_finder, sentences_left, sentences_source};
 ghost use Rattle.seg_segments.specs.TextSegments.{nothing};
 
-use crate::segments::{BreakIterator, ForkBreaks, Source, StatusBreaks, copy_of};
+use crate::segments::{BreakIterator, ForkBreaks, Source, copy_of};
 use seg_clusters::sentence::SentenceBreakIterator;
 
 impl<'data, I: Source> BreakIterator for SentenceBreakIterator<'data, I> {
@@ -35,18 +35,6 @@ impl<'data, I: Source> BreakIterator for SentenceBreakIterator<'data, I> {
         Some((place, ()))
     }
 
-    fn fill(&mut self, places: &mut [usize]) -> usize {
-        self.fill(places)
-    }
-}
-
-impl<'data, I: Source> ForkBreaks for SentenceBreakIterator<'data, I> {
-    fn fork(&self) -> Self {
-        copy_of(self)
-    }
-}
-
-impl<'data, I: Source> StatusBreaks for SentenceBreakIterator<'data, I> {
     fn mark_of(status: u8)
         ensures { result ≡ nothing status }
     {
@@ -55,5 +43,15 @@ impl<'data, I: Source> StatusBreaks for SentenceBreakIterator<'data, I> {
 
     fn fill_both(&mut self, places: &mut [usize], statuses: &mut [u8]) -> usize {
         self.fill_both(places, statuses)
+    }
+
+    fn fill(&mut self, places: &mut [usize]) -> usize {
+        self.fill(places)
+    }
+}
+
+impl<'data, I: Source> ForkBreaks for SentenceBreakIterator<'data, I> {
+    fn fork(&self) -> Self {
+        copy_of(self)
     }
 }

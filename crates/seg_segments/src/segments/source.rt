@@ -3,7 +3,8 @@
 ghost use Rattle.std.specs.Prelude.{◌≡◌, ℕ, List, drop, length};
 ghost use Rattle.seg_text.specs.Decoding.{latin1, utf8, utf16};
 ghost use Rattle.seg_text.specs.Items.{Text, rest_after, start_of};
-ghost use Rattle.seg_segments.specs.Lemmas.Rests.{rests-latin1, rests-utf16, rests-utf8};
+ghost use Rattle.seg_text.specs.Lemmas.Encoded.{latin1-encoding, utf16-encoding, utf8-encoding};
+ghost use Rattle.seg_segments.specs.Lemmas.Rests.{rests};
 ghost use Rattle.seg_segments.specs.TextSegments.{IsPlace, later_text};
 
 use crate::segments::Units;
@@ -57,7 +58,7 @@ impl<'s> Source for StrCharIndices<'s> {
 
     ghost places = { λ _ _ place. place };
 
-    ghost rests = { rests-utf8 };
+    ghost rests = { rests _ _ _ utf8-encoding };
 }
 
 impl<'s> Source for Utf8CharIndices<'s> {
@@ -77,7 +78,7 @@ impl<'s> Source for Utf8CharIndices<'s> {
 
     ghost places = { λ _ _ _. tt };
 
-    ghost rests = { rests-utf8 };
+    ghost rests = { rests _ _ _ utf8-encoding };
 }
 
 impl<'s> Source for Latin1Indices<'s> {
@@ -97,7 +98,7 @@ impl<'s> Source for Latin1Indices<'s> {
 
     ghost places = { λ _ _ _. tt };
 
-    ghost rests = { rests-latin1 };
+    ghost rests = { rests _ _ _ latin1-encoding };
 }
 
 impl<'s> Source for Utf16Indices<'s> {
@@ -117,5 +118,5 @@ impl<'s> Source for Utf16Indices<'s> {
 
     ghost places = { λ _ _ _. tt };
 
-    ghost rests = { rests-utf16 };
+    ghost rests = { rests _ _ _ utf16-encoding };
 }

@@ -4,7 +4,7 @@ ghost use Rattle.std.specs.Prelude.{◌≡◌};
 ghost use Rattle.seg_words.specs.WordRules.{type_of, word_boundaries_by};
 ghost use Rattle.seg_words.specs.Words.{word_finder, words_left, words_source};
 
-use crate::segments::{BreakIterator, ForkBreaks, Source, StatusBreaks, WordBreaks, copy_of};
+use crate::segments::{BreakIterator, ForkBreaks, Source, WordBreaks, copy_of};
 use seg_words::word::{WordBreakIterator, WordType, type_of};
 
 impl<'data, I: Source> BreakIterator for WordBreakIterator<'data, I> {
@@ -34,18 +34,6 @@ impl<'data, I: Source> BreakIterator for WordBreakIterator<'data, I> {
         Some((place, self.word_type()))
     }
 
-    fn fill(&mut self, places: &mut [usize]) -> usize {
-        self.fill(places)
-    }
-}
-
-impl<'data, I: Source> ForkBreaks for WordBreakIterator<'data, I> {
-    fn fork(&self) -> Self {
-        copy_of(self)
-    }
-}
-
-impl<'data, I: Source> StatusBreaks for WordBreakIterator<'data, I> {
     fn mark_of(status: u8) -> WordType
         ensures { result ≡ type_of status }
     {
@@ -54,6 +42,16 @@ impl<'data, I: Source> StatusBreaks for WordBreakIterator<'data, I> {
 
     fn fill_both(&mut self, places: &mut [usize], statuses: &mut [u8]) -> usize {
         self.fill_both(places, statuses)
+    }
+
+    fn fill(&mut self, places: &mut [usize]) -> usize {
+        self.fill(places)
+    }
+}
+
+impl<'data, I: Source> ForkBreaks for WordBreakIterator<'data, I> {
+    fn fork(&self) -> Self {
+        copy_of(self)
     }
 }
 

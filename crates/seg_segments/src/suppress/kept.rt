@@ -4,12 +4,12 @@ ghost use Rattle.std.specs.Prelude.{◌≡◌, ◌≤◌, false, length, IfSome}
 ghost use Rattle.std.specs.Iterator.{YieldsFirst};
 ghost use Rattle.seg_text.specs.Boundaries.{offsets, IsCover};
 ghost use Rattle.seg_data.specs.ScriptWords.{words_after};
-ghost use Rattle.seg_segments.specs.TextSegments.{marked};
 ghost use Rattle.seg_segments.specs.Kept.{left_of, AreAscending};
 
-use crate::segments::{BreakIterator, ForkBreaks};
+use crate::segments::{BreakIterator, ForkBreaks, Held};
 use crate::suppress::starts::Starts;
 use seg_data::provider::DictionaryCursor;
+use seg_text::boundary::Boundary;
 use seg_text::cursor::Cursor;
 use seg_text::reach::Reach;
 use std::marker::Model;
@@ -17,7 +17,7 @@ use std::marker::Model;
 /// Boundaries without those before which a text ends with one of some words.
 #[derive(Drop)]
 pub(super) struct Kept<'data, B: BreakIterator, I: Cursor> {
-    breaks: B,
+    breaks: Held<B>,
     starts: Starts<'data, I>,
 }
 
@@ -30,9 +30,9 @@ impl<'data, B: BreakIterator, I: Cursor> Model for Kept<'data, B, I> {
 
     ghost Value = { List Boundary };
 
-    ghost view = { λ s. left_of (words_after s.starts.words) s.starts.joined (I.text s.starts.rest) (B.left s.breaks) };
+    ghost view = { λ s. left_of (words_after s.starts.words) s.starts.joined (I.text s.starts.rest) s.breaks };
 
-    ghost invariant = { λ s. AreAscending (offsets (B.left s.breaks)) };
+    ghost invariant = { λ s. AreAscending (offsets s.breaks) };
 }
 
 impl<'data, B: BreakIterator, I: Cursor> Kept<'data, B, I> {
@@ -42,7 +42,7 @@ impl<'data, B: BreakIterator, I: Cursor> Kept<'data, B, I> {
         ensures { result ≡ left_of (words_after words.entry) false (I.text text) (B.left breaks) }
     {
         Kept {
-            breaks,
+            breaks: Held::new(breaks),
             starts: Starts {
                 words,
                 rest: text,
@@ -52,13 +52,13 @@ impl<'data, B: BreakIterator, I: Cursor> Kept<'data, B, I> {
     }
 
     /// The next boundary that stays.
-    pub(super) fn next_break(&mut self) -> Option<(usize, B::Mark)>
-        ensures { YieldsFirst (λ left. marked B.mark left) self.old result self.new }
+    pub(super) fn next_boundary(&mut self) -> Option<Boundary>
+        ensures { YieldsFirst (λ left. left) self.old result self.new }
     {
         'breaks: loop {
-            let (place, mark) = self.breaks.next_break()?;
-            if self.starts.keeps(place) {
-                return Some((place, mark));
+            let found = self.breaks.next()?;
+            if self.starts.keeps(found.offset) {
+                return Some(found);
             }
         }
     }
@@ -112,12 +112,12 @@ impl<'data, B: BreakIterator, I: Cursor> HintedKept<'data, B, I> {
     }
 
     /// The next boundary that stays.
-    pub(super) fn next_break(&mut self) -> Option<(usize, B::Mark)>
-        ensures { YieldsFirst (λ left. marked B.mark left) self.old result self.new }
+    pub(super) fn next_boundary(&mut self) -> Option<Boundary>
+        ensures { YieldsFirst (λ left. left) self.old result self.new }
     {
-        let (place, mark) = self.kept.next_break()?;
-        self.reach.go_to(place);
-        Some((place, mark))
+        let found = self.kept.next_boundary()?;
+        self.reach.go_to(found.offset);
+        Some(found)
     }
 
     /// How many are left at least and at most.

@@ -48,8 +48,8 @@ places-preserved-in_ok-count g c =
       never _ c.places.has_begun is,
     )
 
-pub places-preserved-in_ok-push_long-in_default-style : goal.places-preserved-in_ok-push_long-in_default-style
-places-preserved-in_ok-push_long-in_default-style g c =
+pub places-preserved-in_ok-push_long : goal.places-preserved-in_ok-push_long
+places-preserved-in_ok-push_long g c =
     let found = c.places.yielded in
     let end : ℕ × Mark = (c.in-Some.end, c.in-Some.mark) in
     let is = c.if-has_begun.true in
@@ -58,25 +58,9 @@ places-preserved-in_ok-push_long-in_default-style g c =
     ∙ ap (λ (start : Option ℕ). segments c.args.alone found ++ ended start end) (sym c.places.invariant.0 ∙ begun-at c.places.has_begun c.places.start is) in (
       last-is c.places.has_begun found end is,
       gathered-one (line_at (look_of c.args.part) c.args.part.before c.args.part.bytes.now) (segments c.args.alone found) _ _ _ _ _ _ _ more c.places.invariant.1
-          (rw (← c.push_short.ensures.long c.if-push_short.false) c.in_ok-push_long-in_default-style.ensures.lines),
+          (rw (← c.push_short.ensures.long c.if-push_short.false) c.in_ok-push_long.ensures.lines),
       count-more (segments c.args.alone found) _ _ _ _ more c.places.invariant.2 (search rules),
-      c.in_ok-push_long-in_default-style.ensures.stretch,
-      never _ c.places.has_begun is,
-    )
-
-pub places-preserved-in-Counted : goal.places-preserved-in-Counted
-places-preserved-in-Counted g c =
-    let found = c.places.yielded in
-    let end : ℕ × Mark = (c.in-Some.end, c.in-Some.mark) in
-    let is = c.if-has_begun.true in
-    let more =
-    segments-more c.args.alone found end (sym c.is_shown.ensures ∙ c.if-not-is_shown.false)
-    ∙ ap (λ (start : Option ℕ). segments c.args.alone found ++ ended start end) (sym c.places.invariant.0 ∙ begun-at c.places.has_begun c.places.start is) in (
-      last-is c.places.has_begun found end is,
-      gathered-one (line_at (look_of c.args.part) c.args.part.before c.args.part.bytes.now) (segments c.args.alone found) _ _ _ _ _ _ _ more c.places.invariant.1
-          (gathered-same _ _ _ (c.push_short.ensures.long c.if-push_short.false ∙ rw c.in-Counted.is (sym (append-nil c.places.lines.items)))),
-      count-more (segments c.args.alone found) _ _ _ _ more c.places.invariant.2 (search rules),
-      c.places.invariant.3,
+      c.in_ok-push_long.ensures.stretch,
       never _ c.places.has_begun is,
     )
 

@@ -36,16 +36,16 @@ returns-in-Lines-clause-marks g c =
 pub returns-in-Some-clause-places : goal.returns-in-Some-clause-places
 returns-in-Some-clause-places g c =
     rw (c.in-Sentences.is, ← c.in-Some.ensures.value)
-    (subst (λ (found : List Boundary). TakesFirst (min (length c.args.places.now) (length c.args.marks.now)) (map (λ place. c.args.from + place) (offsets (drop 1 found))) c.args.places.now c.fill_marked.new.places c.fill_marked.result)
+    (subst (λ (found : List Boundary). TakesFirst (min (length c.args.places.now) (length c.args.marks.now)) (map (λ place. c.args.from + place) (offsets (drop 1 found))) c.args.places.now c.fill_both-in-Some.new.places c.fill_both-in-Some.result)
     (c.breaks-found-in-Some.ensures.boundaries ∙ ap₂ (λ (find : List ℕ → List Boundary) (units : List ℕ). boundaries_in find (g.I.Source.decode units)) c.suppressing-held.ensures c.rest_of-rest.ensures.rest)
-    c.fill_marked.ensures.places)
+    c.fill_both-in-Some.ensures.places)
 
 pub returns-in-Some-clause-marks : goal.returns-in-Some-clause-marks
 returns-in-Some-clause-marks g c =
     rw (c.in-Sentences.is, ← c.in-Some.ensures.value)
-    (subst (λ (found : List Boundary). TakesFirst (min (length c.args.places.now) (length c.args.marks.now)) (map (λ (one : Boundary). 0) (drop 1 found)) c.args.marks.now c.fill_marked.new.marks c.fill_marked.result)
+    (subst (λ (found : List Boundary). TakesFirst (min (length c.args.places.now) (length c.args.marks.now)) (map (λ (one : Boundary). 0) (drop 1 found)) c.args.marks.now c.fill_both-in-Some.new.marks c.fill_both-in-Some.result)
     (c.breaks-found-in-Some.ensures.boundaries ∙ ap₂ (λ (find : List ℕ → List Boundary) (units : List ℕ). boundaries_in find (g.I.Source.decode units)) c.suppressing-held.ensures c.rest_of-rest.ensures.rest)
-    c.fill_marked.ensures.marks)
+    c.fill_both-in-Some.ensures.marks)
 
 pub returns-in-Clusters-clause-places : goal.returns-in-Clusters-clause-places
 returns-in-Clusters-clause-places g c =

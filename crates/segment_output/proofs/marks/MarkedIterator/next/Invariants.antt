@@ -1,6 +1,5 @@
 -- What was passed over stands behind the limit.
 use Rattle.std.proofs.Common.{◌≡◌, length}
-use Rattle.icu_segmenter.specs.TextSegments.{marked}
 use Rattle.segment_output.proofs.MarkedPlaces.{marks_up_to}
 use Rattle.segment_output.proofs.marks.MarkedIterator.next.Given as goal
 
@@ -8,4 +7,4 @@ abbrev pub invariant-loop-end : goal.invariant-loop-end
 invariant-loop-end g l = (l.self.limit ≡ l.fn.self.limit) × (marks_up_to g.B.BreakIterator.mark g.M.HasMark.said g.L.Limit.holds l.fn.self.limit l.fn.self.breaks ≡ marks_up_to g.B.BreakIterator.mark g.M.HasMark.said g.L.Limit.holds l.fn.self.limit l.self.breaks)
 
 abbrev pub decreases-loop-end : goal.decreases-loop-end
-decreases-loop-end g l = length (marked g.B.BreakIterator.mark l.self.breaks)
+decreases-loop-end g l = length l.self.breaks

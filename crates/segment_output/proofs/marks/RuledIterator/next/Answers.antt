@@ -7,14 +7,14 @@ use Rattle.segment_output.proofs.marks.RuledIterator.next.Goals as goal
 
 pub returns-then-admits-clause-steps : goal.returns-then-admits-clause-steps
 returns-then-admits-clause-steps g c =
-    next-marked g.B.BreakIterator.mark Rule g.L.Limit.holds _ _ c.loop-end.invariant.0 _ _ _ _ c.loop-end.invariant.1 c.next_break.ensures c.in-Some.end _ _ c.in-Some.is refl c.admits.ensures c.if-admits.true
+    next-marked g.B.BreakIterator.mark Rule g.L.Limit.holds _ _ c.loop-end.invariant.0 _ _ _ _ c.loop-end.invariant.1 c.next.ensures.steps c.in-Some.end c.mark_of.result _ _ c.in-Some.is c.mark_of.ensures refl c.admits.ensures c.if-admits.true
 
 pub returns-then-admits-clause-goes : goal.returns-then-admits-clause-goes
 returns-then-admits-clause-goes g c = fewer-left (λ s. marks_up_to g.B.BreakIterator.mark Rule g.L.Limit.holds s.limit s.breaks) _ _ _ (returns-then-admits-clause-steps g c)
 
 pub loop-end-preserved : goal.loop-end-preserved
 loop-end-preserved g c =
-    (c.loop-end.invariant.0, passes-over g.B.BreakIterator.mark Rule g.L.Limit.holds _ _ c.loop-end.invariant.0 _ _ _ _ c.loop-end.invariant.1 c.next_break.ensures c.in-Some.end _ c.in-Some.is c.admits.ensures c.if-admits.false)
+    (c.loop-end.invariant.0, passes-over g.B.BreakIterator.mark Rule g.L.Limit.holds _ _ c.loop-end.invariant.0 _ _ _ _ c.loop-end.invariant.1 c.next.ensures.steps c.in-Some.end _ c.in-Some.is c.admits.ensures c.if-admits.false)
 
 pub returns-clause-steps : goal.returns-clause-steps
-returns-clause-steps g c = none-marked g.B.BreakIterator.mark Rule g.L.Limit.holds _ _ c.loop-end.invariant.0 _ _ _ _ c.loop-end.invariant.1 c.next_break.ensures c.in_default.is
+returns-clause-steps g c = none-marked g.B.BreakIterator.mark Rule g.L.Limit.holds _ _ c.loop-end.invariant.0 _ _ _ _ c.loop-end.invariant.1 c.next.ensures.steps c.in_default.is
