@@ -128,8 +128,8 @@ size_t yengatomu_marked_boundaries_latin1(const yengatomu_slot *slot, const uint
                                           size_t room, uint8_t *marks, size_t marks_room);
 
 /* The nearest boundary above the place, which may be inside a character; and the nearest below it, which may be past the end.
- * YENGATOMU_NONE where there is none, and where the slot is empty. It reads what is near, and of a run that a dictionary cuts all. Where
- * an abbreviation has a space, it reads from the start of the line on. */
+ * YENGATOMU_NONE where there is none, and where the slot is empty. It reads what is near, and the whole of a run that a dictionary cuts.
+ * Where an abbreviation has a space, it reads from the start of the line on. */
 size_t yengatomu_next(const yengatomu_slot *slot, const uint8_t *text, size_t len, size_t place);
 size_t yengatomu_next_utf16(const yengatomu_slot *slot, const uint16_t *text, size_t len, size_t place);
 size_t yengatomu_previous(const yengatomu_slot *slot, const uint8_t *text, size_t len, size_t place);

@@ -65,8 +65,8 @@ pub struct Part<'s> {
 }
 
 /// Writes the segments of a part between each two places that come, each with the mark of what ends there, or words alone, flushes, and says
-/// how many there were. The errors are the writer's, and being out of memory, also where there are more segments, or bytes in all, than a
-/// `usize` counts.
+/// how many there were. Where they are only counted, nothing is written. The errors are the writer's, and being out of memory, also where there
+/// are more segments, or bytes in all, than a `usize` counts.
 pub fn print_segments<N: Iterator<Item = (usize, Mark)>, O: Write>(
     alloc: Global,
     places: &mut N,
@@ -109,7 +109,7 @@ fn count_segments<N: Iterator<Item = (usize, Mark)>>(
     Ok(count)
 }
 
-// Writes the segments of a part in any style.
+// Writes the segments of a part as lines of text or of places.
 fn print_lines<N: Iterator<Item = (usize, Mark)>, O: Write>(
     alloc: Global,
     places: &mut N,
