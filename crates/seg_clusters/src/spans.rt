@@ -26,12 +26,14 @@ impl<'data> CodePointTest for SpanTest<'data> {
 
     ghost passes = { λ test. has_worded_script (machine_of test.machine) (borrowed_words test.dictionaries) test.script };
 
+    #[inline(always)]
     fn accepts(&self, code_point: u32) -> bool {
         worded_script(self.machine, self.dictionaries, code_point) == self.script
     }
 }
 
 /// The script of a code point by a machine, if it has words, or else none.
+#[inline(always)]
 fn worded_script(
     machine: TailoredMachineBorrowed<'_>,
     dictionaries: DictionariesBorrowed<'_>,
@@ -47,6 +49,7 @@ fn worded_script(
 }
 
 /// Whether a code point stands in no run: by the machine it has no script that has words.
+#[inline(always)]
 pub fn is_outside_runs(
     machine: TailoredMachineBorrowed<'_>,
     dictionaries: DictionariesBorrowed<'_>,
@@ -54,8 +57,7 @@ pub fn is_outside_runs(
 ) -> bool
     ensures { IsTrue result ↔ IsOutsideRuns (machine_of machine.entry) (borrowed_words dictionaries.entry) code_point }
 {
-    dictionaries.is_empty()
-        || worded_script(machine, dictionaries, code_point) == ComplexScript::None
+    worded_script(machine, dictionaries, code_point) == ComplexScript::None
 }
 
 /// Whether between two code points another span begins: the scripts that have words, which the machine tells of them, differ.

@@ -135,6 +135,7 @@ impl<'data> DictionariesBorrowed<'data> {
     }
 
     /// A cursor at the beginning of the words of a script, if it has a dictionary. Takes no memory.
+    #[inline(always)]
     pub fn cursor(self, script: ComplexScript) -> Option<DictionaryCursor<'data>>
         ensures { option_map words_after result ≡ words_in (borrowed_words self.entry) script }
     {

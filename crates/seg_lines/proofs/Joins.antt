@@ -142,7 +142,8 @@ beyond-above : (place : ℕ) (cuts : List ℕ) → AreBeyond (Some place) cuts �
 beyond-above place [] beyond rising = tt
 beyond-above place (cut ∷ cuts) beyond rising = (beyond, above-more place cut cuts beyond rising.0)
 
-cuts-above : (place : ℕ) (cut : Option ℕ) (cuts : List ℕ) → IfSome cut (λ first. place < first) → AreRising (option_to_list cut ++ cuts) → (cut ≡ None → AreBeyond (Some place) cuts)
+-- .. with the one that is held
+pub cuts-above : (place : ℕ) (cut : Option ℕ) (cuts : List ℕ) → IfSome cut (λ first. place < first) → AreRising (option_to_list cut ++ cuts) → (cut ≡ None → AreBeyond (Some place) cuts)
     → AreAbove place (option_to_list cut ++ cuts)
 cuts-above place None cuts before rising beyond = beyond-above place cuts (beyond refl) rising
 cuts-above place (Some cut) cuts before rising beyond = (before, above-more place cut cuts before rising.0)

@@ -212,9 +212,14 @@ impl<'data> TailoredMachineBorrowed<'data> {
     }
 
     /// The script of a code point.
+    #[inline(always)]
     pub fn script(&self, code_point: u32) -> ComplexScript
         ensures { result ≡ (symbol_and_script (machine_of self.now) code_point).1 }
     {
+        let value = self.machine.symbols().get32(code_point);
+        if value < self.plain_below {
+            return ComplexScript::None;
+        }
         script_of(
             self.machine,
             self.pseudo_symbol_map,

@@ -1,15 +1,14 @@
 -- What is read by rows, item by item, and by a scan.
-use Rattle.std.proofs.Common.{◌≡◌, ◌≢◌, ℕ, ◌+◌, ◌*◌, ◌/◌, ◌<◌, ◌≤◌, Option, Some, None, List, [], ◌∷◌, length, slice_index, refl, ap, subst, arith, suc, drop, sym, ◌∙◌}
+use Rattle.std.proofs.Common.{◌≡◌, ◌≢◌, ℕ, ◌+◌, ◌*◌, ◌/◌, ◌<◌, ◌≤◌, Option, Some, None, List, [], ◌∷◌, length, slice_index, ◌==◌, true, refl, ap, subst, arith, sym, ◌∙◌}
 use Rattle.seg_text.specs.declared.boundary.Boundary.{Boundary}
-use Rattle.seg_text.specs.Items.{Item, Text, IsRising, code_points, place_of, rest_after, start_of}
+use Rattle.seg_text.specs.Items.{Item, Text, IsRising, code_points, rest_after, start_of}
 use Rattle.seg_machine.specs.Machine.{Machine, state_at, step, symbol_and_script, symbols_of}
 use Rattle.seg_machine.specs.MachineFaults.{IsChecked}
 use Rattle.seg_machine.specs.Pick.{acceptance_status, pick}
 use Rattle.seg_machine.specs.Scan.{IsSymbolAhead}
-use Rattle.std.proofs.lemmas.List.{drop_all}
+use Rattle.std.proofs.lemmas.Bool.Decides.{nat_tests}
 use Rattle.std.specs.Prelude.{IfSome}
 use Rattle.std.specs.Option.{option_map_or}
-use Rattle.seg_text.proofs.Places.{IsRising-drop, place_of-drop-lt}
 use Rattle.seg_machine.proofs.Scanned.{begins-end, begins-next, none-less, one-less}
 use Rattle.seg_machine.specs.DenseRows.{AreRows, end_status, slow}
 use Rattle.seg_rows.specs.Underway.{IsNextEntry, IsStuck}
@@ -89,13 +88,16 @@ from-same m old first state entry new same next = subst (λ (text : Text). IsNex
 pub some-items : (items later : List Item) (item : Item) → items ≡ item ∷ later → items ≢ []
 some-items items later item is none = cc
 
--- a text whose place is its end is at its end
-nothing-left : (items : List Item) (end : ℕ) → IsRising items end → place_of items end ≡ end → items ≡ []
-nothing-left [] end rises here = refl
-nothing-left (item ∷ items) end rises here =
-    let all : drop (suc (length items)) (item ∷ items) ≡ [] = drop_all (suc (length items)) (item ∷ items) (omega arith) in
-    let later : item.0 < end = subst (λ (left : List Item). item.0 < place_of left end) all (place_of-drop-lt item items end (suc (length items)) rises (omega arith)) in
-    absurd (omega (arith, later, here))
+nothing-in : (items : List Item) → (length items == 0) ≡ true → items ≡ []
+nothing-in [] none = refl
+nothing-in (item ∷ items) none = absurd (grind (arith, nat_tests))
+
+-- a cursor that goes on to where a scan has come stands at what the scan has left
+pub nothing-there : (m : Machine) (text there : Text) (row place : ℕ) (stuck : IsStuck m text row place)
+    → ((k : ℕ) → place ≡ start_of (rest_after k text) → there ≡ rest_after k text) → (length there.items == 0) ≡ true → stuck.0.items ≡ []
+nothing-there m text there row place (left, under, stands) goes none =
+    let same : there ≡ left = goes (length under.scanned.entered) (stands ∙ ap start_of under.scanned.rest) ∙ sym under.scanned.rest in
+    rw (← same) (nothing-in there.items none)
 
 ending : (m : Machine) (at state status : ℕ) → at ≡ state → end_status m at ≡ Some status → (step m state 0 ≡ None) × (acceptance_status (state_at m state) ≡ Some status)
 unfolding end_status
@@ -107,22 +109,19 @@ ending m at state status here is = on (step m at 0) refl is
     on (Some next) leads is = cc
 
 -- at the end of the text, where the state accepts and the end leads nowhere, the segment ends
-pub ends-there : (m : Machine) (text : Text) (row place status : ℕ) → IsChecked m → IsRising text.items text.end → IsStuck m text row place → place ≡ text.end
+ends-there : (m : Machine) (text : Text) (row place status : ℕ) → IsChecked m → IsRising text.items text.end → (stuck : IsStuck m text row place) → stuck.0.items ≡ []
     → end_status m (row / 256) ≡ Some status
     → (p : Boundary) × (pick m (symbols_of m (code_points text.items)) ≡ Some p) × (place ≡ start_of (rest_after p.offset text)) × (status ≡ p.status)
-ends-there m text row place status checked rises (left, under, stands) at-end is =
+ends-there m text row place status checked rises (left, under, stands) none is =
     let here : row / 256 ≡ under.state = omega (arith, under.row_is) in
     let says = ending m (row / 256) under.state status here is in
-    let order : IsRising left.items left.end = rw under.scanned.rest (IsRising-drop text.items text.end (length under.scanned.entered) rises) in
-    let same : text.end ≡ left.end = ap (λ (t : Text). t.end) (sym under.scanned.rest) in
-    let none : left.items ≡ [] = nothing-left left.items left.end order (sym stands ∙ at-end ∙ same) in
     let (p, picks, status-is, rest) =
     stops-at m text left left row 0 status status rises under (end-ahead m left left checked none none refl) says.0 says.1 refl in
     (p, picks, stands ∙ ap start_of rest, status-is)
 
 -- .. if it does
-pub ends-if : (m : Machine) (text : Text) (row place : ℕ) (found : Option ℕ) → IsChecked m → IsRising text.items text.end → IsStuck m text row place → place ≡ text.end
-    → found ≡ end_status m (row / 256)
+pub ends-if : (m : Machine) (text : Text) (row place : ℕ) (found : Option ℕ) → IsChecked m → IsRising text.items text.end → (stuck : IsStuck m text row place)
+    → stuck.0.items ≡ [] → found ≡ end_status m (row / 256)
     → IfSome found (λ status. (p : Boundary) × (pick m (symbols_of m (code_points text.items)) ≡ Some p) × (place ≡ start_of (rest_after p.offset text)) × (status ≡ p.status))
-ends-if m text row place None checked rises stuck at-end is = tt
-ends-if m text row place (Some status) checked rises stuck at-end is = ends-there m text row place status checked rises stuck at-end (sym is)
+ends-if m text row place None checked rises stuck none is = tt
+ends-if m text row place (Some status) checked rises stuck none is = ends-there m text row place status checked rises stuck none (sym is)

@@ -314,7 +314,9 @@ fn status_there<I: Cursor>(
         × (place ≡ start_of (rest_after p.offset (I.text text.now))) × (status ≡ p.status)) }
 {
     machine.facts();
-    if place == text.end() {
+    let mut there = text.fork();
+    there.seek(place);
+    if there.is_at_end() {
         return status_at_end(machine, (row / 256) as State);
     }
     None

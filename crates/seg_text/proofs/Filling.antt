@@ -1,11 +1,12 @@
 -- Buffers that are filled one by one.
-use Rattle.std.proofs.Common.{◌≡◌, ℕ, zero, suc, ◌+◌, ◌-◌, ◌<◌, ◌≤◌, List, [], ◌∷◌, ◌++◌, take, drop, set, slice_index, length, Bool, true, false, refl, sym, ap, ◌∙◌, subst, arith}
+use Rattle.std.proofs.Common.{◌≡◌, ℕ, zero, suc, ◌+◌, ◌-◌, ◌<◌, ◌≤◌, List, [], ◌∷◌, ◌++◌, take, drop, set, slice_index, length, map, min, Bool, true, false, refl, sym, ap, ◌∙◌, subst, arith}
 use Rattle.std.proofs.lemmas.Bool.{lt-ltb}
-use Rattle.std.proofs.lemmas.List.{length-drop, length-map}
+use Rattle.std.proofs.lemmas.List.{append-nil, drop-map, drop_all, drop-append-le, length-append, length-drop, length-map, map-append, take-append-le, take_all}
+use borrow.Rule.Slice.PartMut.{mid_len, mid_of, put_mid}
 use Rattle.seg_text.specs.declared.boundary.Boundary.{Boundary}
 use Rattle.seg_text.specs.declared.reach.Reach.{Reach}
 use Rattle.seg_text.specs.Boundaries.{Remainder, RisesTo, AreAhead, AreLeft, boundary, offsets}
-use Rattle.seg_text.specs.Filled.{TakesFirst, after_given, last_status}
+use Rattle.seg_text.specs.Filled.{TakesFirst, WritesBoth, WritesSome, after_given, last_status, statuses}
 
 -- so many of all numbers were written, and these are left
 pub record Filling {X : Type 0} (all old now : List X) (index : ℕ) (left : List X) : Type 0 where
@@ -31,6 +32,53 @@ went-on all old now index x left later filling is inside =
     let (written, rest, some) = one-more all old index x later inside (filling.rest ∙ is) in
     let next : index + 1 ≡ suc index = omega arith in
     rw next (record { rest = rest; some = some; written = ap (λ now. set now index x) filling.written ∙ written })
+
+some-more : {X : Type 0} (all old : List X) (index count : ℕ) → index ≤ length all → index ≤ length old
+    → (take index (take index all ++ drop index old) ++ (take count (drop index all) ++ drop count (drop index (take index all ++ drop index old)))
+    ≡ take (index + count) all ++ drop (index + count) old)
+    × (drop (index + count) all ≡ drop count (drop index all))
+some-more all old zero count inside within =
+    let none : zero + count ≡ count = omega arith in
+    rw none (refl, refl)
+some-more [] old (suc index) count inside within = absurd (omega (arith, inside))
+some-more (y ∷ all) [] (suc index) count inside within = absurd (omega (arith, within))
+some-more (y ∷ all) (o ∷ old) (suc index) count inside within =
+    let (written, rest) = some-more all old index count (omega (arith, inside)) (omega (arith, within)) in
+    let one : suc index + count ≡ suc (index + count) = omega arith in
+    rw one (ap (λ now. y ∷ now) written, rest)
+
+-- the part of a buffer from a place on, over whose first ones some were written
+in-part : {X : Type 0} (now new given : List X) (index count : ℕ) → new ≡ given ++ drop count (mid_of index (length now - index) now)
+    → put_mid index (length now - index) now new ≡ take index now ++ (given ++ drop count (drop index now))
+in-part now new given index count is =
+    let long : length (drop index now) ≤ length now - index = omega (arith, length-drop index now) in
+    ap (λ (rest : List _). take index now ++ (new ++ rest)) (drop_all (length now - index) (drop index now) long)
+    ∙ ap (λ (part : List _). take index now ++ part) (append-nil new ∙ is ∙ ap (λ (part : List _). given ++ drop count part) (take_all (length now - index) (drop index now) long))
+
+-- some more at once
+pub went-on-some : {X : Type 0} (all old now : List X) (index count : ℕ) (left later new : List X) → Filling all old now index left → count ≤ length left → index ≤ length old
+    → later ≡ drop count left → new ≡ take count left ++ drop count (mid_of index (length now - index) now)
+    → Filling all old (put_mid index (length now - index) now new) (index + count) later
+went-on-some all old now index count left later new filling few inside rest new-is =
+    let (written, behind) = some-more all old index count filling.some inside in
+    let long : index + length left ≡ length all = omega (arith, filling.some, ap length filling.rest, length-drop index all) in
+    record {
+      rest = behind ∙ ap (drop count) filling.rest ∙ sym rest;
+      some = omega (arith, few, long);
+      written = in-part now new (take count left) index count new-is ∙ rw (filling.written, ← filling.rest) written;
+    }
+
+-- of boundaries
+pub went-on-batch : (of : Boundary → ℕ) (before after : List Boundary) (all old now new : List ℕ) (index count : ℕ) → Filling all old now index (map of before)
+    → count ≤ length before → index ≤ length old → after ≡ drop count before → new ≡ take count (map of before) ++ drop count (mid_of index (length now - index) now)
+    → Filling all old (put_mid index (length now - index) now new) (index + count) (map of after)
+went-on-batch of before after all old now new index count filling few inside rest is =
+    went-on-some all old now index count (map of before) (map of after) new filling (omega (arith, few, length-map before of)) inside
+    (ap (map of) rest ∙ sym (drop-map of count before)) is
+
+-- a batch has no more room than is left of the buffer
+pub part-room : (now : List ℕ) (index count : ℕ) → index ≤ length now → count ≤ length (mid_of index (length now - index) now) → index + count ≤ length now
+part-room now index count inside few = omega (arith, few, inside, mid_len index (length now) now (omega arith))
 
 -- what is left behind one that is gone
 pub behind : {X : Type 0} (all : List X) (index : ℕ) (x : X) (left : List X) → drop index all ≡ x ∷ left → drop (index + 1) all ≡ left
@@ -89,6 +137,29 @@ writing-on room before now next index offset w inside is =
     let (last, rest, some) = last-taken before.status index before.left (boundary offset next.status) next.left (sym w.left ∙ is) in
     record { left = sym rest; status = sym last; some = omega (arith, some); within = omega (arith, inside) }
 
+last-of-some : (status index count : ℕ) (boundaries : List Boundary) → index ≤ length boundaries
+    → last_status (last_status status (take index boundaries)) (take count (drop index boundaries)) ≡ last_status status (take (index + count) boundaries)
+    × (drop count (drop index boundaries) ≡ drop (index + count) boundaries)
+last-of-some status zero count boundaries inside =
+    let none : zero + count ≡ count = omega arith in
+    rw none (refl, refl)
+last-of-some status (suc index) count [] inside = absurd (omega (arith, inside))
+last-of-some status (suc index) count (first ∷ boundaries) inside =
+    let one : suc index + count ≡ suc (index + count) = omega arith in
+    rw one (last-of-some first.status index count boundaries (omega (arith, inside)))
+
+-- some more at once
+pub writing-some : (room : ℕ) (before now next : Remainder) (index count : ℕ) → Writing room before now index → count ≤ length now.left → index + count ≤ room
+    → next.left ≡ drop count now.left → next.status ≡ last_status now.status (take count now.left) → Writing room before next (index + count)
+writing-some room before now next index count w few inside left status =
+    let (last, rest) = last-of-some before.status index count before.left w.some in
+    record {
+      left = left ∙ ap (drop count) w.left ∙ rest;
+      status = status ∙ rw (w.status, w.left) last;
+      some = omega (arith, w.some, few, ap length w.left, length-drop index before.left);
+      within = inside;
+    }
+
 same-remainder : (r : Remainder) (left : List Boundary) (status : ℕ) → r.left ≡ left → r.status ≡ status → r ≡ record { left = left; status = status }
 same-remainder r left status one two = rw (← one, ← two) refl
 
@@ -132,3 +203,60 @@ ahead-behind room before now boundaries old new count ahead taken more on here e
     let place : now.place ≡ slice_index (offsets boundaries) (count - 1) =
     here ∙ ap (λ (written : List ℕ). slice_index written (count - 1)) taken.first ∙ index-taken (offsets boundaries) (drop count old) count (count - 1) (omega (arith, more)) many in
     rw (on, place, end) (subst (λ (n : ℕ). RisesTo (slice_index (offsets boundaries) (count - 1)) (drop n boundaries) before.end) one rises)
+
+-- Some boundaries that were written.
+
+-- none were
+pub none-written : (boundaries : List Boundary) (places marks : List ℕ) → WritesSome boundaries boundaries places places marks marks 0
+none-written boundaries places marks = record { some = omega arith; room = omega arith; places = refl; statuses_are = refl; left = refl }
+
+-- as many as there are and there is room for
+pub some-of-all : (room : ℕ) (before after : Remainder) (old new olds news : List ℕ) (count : ℕ) → room ≡ min (length old) (length olds)
+    → WritesBoth room before after old new olds news count → WritesSome before.left after.left old new olds news count
+some-of-all room before after old new olds news count is writes = record {
+  some = omega (arith, writes.places.few, length-map before.left (λ (b : Boundary). b.offset));
+  room = omega (arith, writes.places.few, is);
+  places = writes.places.first;
+  statuses_are = writes.statuses_are.first;
+  left = ap (λ (r : Remainder). r.left) writes.left;
+}
+
+-- others come behind them
+pub some-ahead : (before after more : List Boundary) (old new olds news : List ℕ) (count : ℕ) → WritesSome before after old new olds news count
+    → WritesSome (before ++ more) (after ++ more) old new olds news count
+some-ahead before after more old new olds news count writes =
+    let places : length (offsets before) ≡ length before = length-map before (λ (b : Boundary). b.offset) in
+    let marks : length (statuses before) ≡ length before = length-map before (λ (b : Boundary). b.status) in
+    record {
+      some = omega (arith, writes.some, length-append before more);
+      room = writes.room;
+      places =
+          writes.places ∙ ap (λ (l : List ℕ). l ++ drop count old)
+          (sym (ap (take count) (map-append (λ (b : Boundary). b.offset) before more) ∙ take-append-le count (offsets before) (offsets more) (omega (arith, writes.some, places))));
+      statuses_are =
+          writes.statuses_are ∙ ap (λ (l : List ℕ). l ++ drop count olds)
+          (sym (ap (take count) (map-append (λ (b : Boundary). b.status) before more) ∙ take-append-le count (statuses before) (statuses more) (omega (arith, writes.some, marks))));
+      left = ap (λ (l : List Boundary). l ++ more) writes.left ∙ sym (drop-append-le count before more writes.some);
+    }
+
+status-of : (status : ℕ) (boundaries : List Boundary) (index : ℕ) → index < length boundaries → slice_index (statuses boundaries) index ≡ last_status status (take (suc index) boundaries)
+status-of status [] index inside = absurd (omega (arith, inside))
+status-of status (first ∷ boundaries) zero inside = refl
+status-of status (first ∷ boundaries) (suc index) inside = status-of first.status boundaries index (omega (arith, inside))
+
+-- the last of them stands at the end
+pub last-place : (before after : List Boundary) (old new olds news : List ℕ) (count : ℕ) → WritesSome before after old new olds news count → 0 < count
+    → slice_index new (count - 1) ≡ slice_index (offsets before) (count - 1)
+last-place before after old new olds news count writes more =
+    let long : length (offsets before) ≡ length before = length-map before (λ (b : Boundary). b.offset) in
+    ap (λ (l : List ℕ). slice_index l (count - 1)) writes.places ∙ index-taken (offsets before) (drop count old) count (count - 1) (omega (arith, more)) (omega (arith, writes.some, long))
+
+pub last-mark : (status : ℕ) (before after : List Boundary) (old new olds news : List ℕ) (count : ℕ) → WritesSome before after old new olds news count → 0 < count
+    → slice_index news (count - 1) ≡ last_status status (take count before)
+last-mark status before after old new olds news count writes more =
+    let long : length (statuses before) ≡ length before = length-map before (λ (b : Boundary). b.status) in
+    let one : suc (count - 1) ≡ count = omega (arith, more) in
+    ap (λ (l : List ℕ). slice_index l (count - 1)) writes.statuses_are
+    ∙ index-taken (statuses before) (drop count olds) count (count - 1) (omega (arith, more)) (omega (arith, writes.some, long))
+    ∙ status-of status before (count - 1) (omega (arith, more, writes.some))
+    ∙ ap (λ (n : ℕ). last_status status (take n before)) one

@@ -1,5 +1,5 @@
 -- Buffers of a caller, which take the first of some numbers or other things.
-use Rattle.std.specs.Prelude.{◌≡◌, ℕ, nat_lt, if◌then◌else◌, ◌++◌, List, [], ◌∷◌, drop, map, take, length, min}
+use Rattle.std.specs.Prelude.{◌≡◌, ◌≤◌, ℕ, nat_lt, if◌then◌else◌, ◌++◌, List, [], ◌∷◌, drop, map, take, length, min}
 use Rattle.seg_text.specs.declared.boundary.Boundary.{Boundary}
 use Rattle.seg_text.specs.Boundaries.{Remainder, offsets}
 
@@ -37,3 +37,11 @@ pub record WritesBoth (room : ℕ) (before after : Remainder) (old new olds news
   pub places : TakesFirst room (offsets before.left) old new count
   pub statuses_are : TakesFirst room (statuses before.left) olds news count
   pub left : after ≡ after_given room count before
+
+-- of these boundaries the places of the first ones were written over the first of a buffer and their statuses over those of another, and the others are left
+pub record WritesSome (before after : List Boundary) (old new olds news : List ℕ) (count : ℕ) : Type 0 where
+  pub some : count ≤ length before
+  pub room : count ≤ min (length old) (length olds)
+  pub places : new ≡ take count (offsets before) ++ drop count old
+  pub statuses_are : news ≡ take count (statuses before) ++ drop count olds
+  pub left : after ≡ drop count before

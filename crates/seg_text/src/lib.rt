@@ -1,6 +1,7 @@
 //! Texts as lists of items: cursors that decode them, and the encodings that segmenters take.
 #![tactic(auto)]
 
+pub mod batches;
 pub mod boundary;
 pub mod character;
 pub mod cursor;

@@ -1,10 +1,10 @@
 -- Spans of a text by a machine: they take something, and their boundaries cover them.
-use Rattle.std.proofs.Common.{◌≡◌, ℕ, zero, suc, ◌-◌, ◌<◌, ◌≤◌, Bool, true, false, List, [], ◌∷◌, ◌++◌, length, map, take, drop, refl, sym, ap, subst, ◌∙◌, arith, append-nil}
+use Rattle.std.proofs.Common.{◌≡◌, ℕ, zero, suc, ◌-◌, ◌<◌, ◌≤◌, Bool, true, false, List, [], ◌∷◌, ◌++◌, length, map, take, drop, slice_index, refl, sym, ap, subst, ◌∙◌, arith, append-nil}
 use Rattle.std.specs.Prelude.{Option, None, Some}
 use Rattle.std.proofs.lemmas.List.{drop_all, length-drop, length-map, take-map, take_all}
 use Rattle.seg_text.specs.declared.boundary.Boundary.{Boundary}
 use Rattle.seg_text.specs.Items.{Item, Text, start_of, rest_after, text_before, code_points, IsRising}
-use Rattle.seg_text.specs.Boundaries.{IsCover, RisesTo, boundary, boundary_in, boundaries_in, shift_all, start, with_status, Stretch, HasProgress, IsWithin, later_boundaries, list_boundaries}
+use Rattle.seg_text.specs.Boundaries.{IsCover, RisesTo, boundary, boundary_in, boundaries_in, offsets, shift_all, start, with_status, Stretch, HasProgress, IsWithin, later_boundaries, list_boundaries}
 use Rattle.seg_text.proofs.Covers.{covers, covers-list}
 use Rattle.seg_text.proofs.Places.{place-before}
 use Rattle.seg_text.proofs.Stretches.{later-nil, later-next, text-later-nil}
@@ -204,3 +204,16 @@ pub without-words : (m : Machine) (payloads : Payloads) → payloads.words ≡ n
 without-words m payloads none code_points =
     ap (λ (words : ScriptWords). list_boundaries (span_stretch m (record { words = words; clusters = payloads.clusters })) code_points) none
     ∙ ap (λ (later : List Boundary). start ∷ later) (whole-later m payloads.clusters code_points)
+
+-- where the last of some boundaries stands, once the first of them are gone
+pub last-left : (place : ℕ) (boundaries : List Boundary) (count : ℕ) → 0 < count → count ≤ length boundaries
+    → last_of (slice_index (offsets boundaries) (count - 1)) (drop count boundaries) ≡ last_of place boundaries
+last-left place boundaries count some inside =
+    let one : suc (count - 1) ≡ count = omega (arith, some) in
+    ap (λ (n : ℕ). last_of (slice_index (offsets boundaries) (count - 1)) (drop n boundaries)) (sym one) ∙ from place boundaries (count - 1) (omega (arith, some, inside))
+  where
+    from : (place : ℕ) (boundaries : List Boundary) (index : ℕ) → index < length boundaries
+        → last_of (slice_index (offsets boundaries) index) (drop (suc index) boundaries) ≡ last_of place boundaries
+    from place [] index inside = absurd (omega (arith, inside))
+    from place (first ∷ boundaries) zero inside = refl
+    from place (first ∷ boundaries) (suc index) inside = from first.offset boundaries index (omega (arith, inside))

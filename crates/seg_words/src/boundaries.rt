@@ -16,6 +16,7 @@ use seg_clusters::complex::ComplexPayloadsBorrowed;
 use seg_clusters::engine::Engine;
 use seg_machine::tailored_machine::TailoredMachineBorrowed;
 use seg_rows::rule_segmenter_v2::RuleBreakIterator;
+use seg_text::batches::{write_both_by_batches, write_places_by_batches};
 use seg_text::cursor::Cursor;
 use seg_text::reach::{BoundarySource, BufferSource, HintedBoundaries, write_both, write_places};
 
@@ -84,7 +85,7 @@ impl<'data, I: Cursor> BoundarySource for WordBoundaries<'data, I> {
         match self {
             WordBoundaries::Classic(engine) => engine.next(),
             WordBoundaries::Neo(engine) => engine.next(),
-            WordBoundaries::NeoWithWords(engine) => engine.next(),
+            WordBoundaries::NeoWithWords(engine) => engine.next_boundary(),
         }
     }
 
@@ -92,7 +93,7 @@ impl<'data, I: Cursor> BoundarySource for WordBoundaries<'data, I> {
         match self {
             WordBoundaries::Classic(engine) => engine.status(),
             WordBoundaries::Neo(engine) => engine.status(),
-            WordBoundaries::NeoWithWords(engine) => engine.status(),
+            WordBoundaries::NeoWithWords(engine) => engine.last_status(),
         }
     }
 
@@ -105,9 +106,12 @@ impl<'data, I: Cursor> BoundarySource for WordBoundaries<'data, I> {
     }
 }
 
+// By the rows of a machine that has them.
 impl<'data, I: Cursor> BufferSource for WordBoundaries<'data, I> {
-    // By the rows of a machine that has them, where no script has words.
     fn fill(&mut self, places: &mut [usize]) -> usize {
+        if let WordBoundaries::NeoWithWords(engine) = self {
+            return write_places_by_batches(engine, places);
+        }
         if let WordBoundaries::Neo(engine) = self {
             if let Some(count) = engine.fill(places) {
                 return count;
@@ -117,6 +121,9 @@ impl<'data, I: Cursor> BufferSource for WordBoundaries<'data, I> {
     }
 
     fn fill_both(&mut self, places: &mut [usize], statuses: &mut [u8]) -> usize {
+        if let WordBoundaries::NeoWithWords(engine) = self {
+            return write_both_by_batches(engine, places, statuses);
+        }
         if let WordBoundaries::Neo(engine) = self {
             if let Some(count) = engine.fill_both(places, statuses) {
                 return count;

@@ -1,9 +1,8 @@
 //! The boundaries of words by a machine: span by span, runs of scripts with words by these, and the pieces between by the machine.
 
-ghost use Rattle.std.specs.Prelude.{◌≡◌, ⊤};
-ghost use Rattle.std.specs.Iterator.{YieldsFirst, MakesProgress, item_count};
+ghost use Rattle.std.specs.Prelude.{◌≡◌};
 ghost use Rattle.seg_text.specs.Items.{start_of};
-ghost use Rattle.seg_text.specs.Boundaries.{GivesNext, IsCover, offsets_left};
+ghost use Rattle.seg_text.specs.Boundaries.{IsCover};
 ghost use Rattle.seg_clusters.specs.Rules.Rules.{ByMachine};
 ghost use Rattle.seg_clusters.specs.Payloads.{payloads_of};
 ghost use Rattle.seg_machine.specs.Tailored.{machine_of};
@@ -12,7 +11,9 @@ ghost use Rattle.seg_words.specs.WordRules.{word_boundaries_of};
 use crate::span::Span;
 use seg_clusters::complex::ComplexPayloadsBorrowed;
 use seg_machine::tailored_machine::TailoredMachineBorrowed;
+use seg_text::batches::BatchSource;
 use seg_text::cursor::Cursor;
+use seg_text::reach::BoundarySource;
 use std::marker::Model;
 
 /// The boundaries of words in a text, as places.
@@ -69,26 +70,12 @@ impl<'data, I: Cursor> NeoBoundaries<'data, I> {
             status: 0,
         }
     }
-
-    /// The status of the boundary that was given last: 0 for the first, before it and after the end.
-    pub(crate) fn status(&self) -> u8
-        ensures { result ≡ self.now.status }
-    {
-        self.status
-    }
 }
 
-impl<'data, I: Cursor> Iterator for NeoBoundaries<'data, I> {
-    type Item = usize;
+impl<'data, I: Cursor> BoundarySource for NeoBoundaries<'data, I> {
+    ghost remainder = { λ left. left };
 
-    ghost next_gives = { YieldsFirst offsets_left };
-
-    ghost remaining = { item_count offsets_left };
-
-    fn next(&mut self) -> Option<usize>
-        ensures steps { YieldsFirst offsets_left self.old result self.new × GivesNext self.old result self.new }
-        ensures goes { MakesProgress (λ _. ⊤) (item_count offsets_left) self.old result self.new }
-    {
+    fn next_boundary(&mut self) -> Option<usize> {
         self.machine.facts();
         self.payloads.facts();
         loop {
@@ -110,13 +97,12 @@ impl<'data, I: Cursor> Iterator for NeoBoundaries<'data, I> {
             }
         }
     }
-}
 
-impl<'data, I: Cursor> NeoBoundaries<'data, I> {
-    /// What is left of the boundaries, once more. Takes no memory.
-    pub(crate) fn fork(&self) -> Self
-        ensures { result ≡ self.now }
-    {
+    fn last_status(&self) -> u8 {
+        self.status
+    }
+
+    fn fork(&self) -> Self {
         NeoBoundaries {
             machine: self.machine,
             payloads: self.payloads,
@@ -126,5 +112,17 @@ impl<'data, I: Cursor> NeoBoundaries<'data, I> {
             place: self.place,
             status: self.status,
         }
+    }
+}
+
+impl<'data, I: Cursor> BatchSource for NeoBoundaries<'data, I> {
+    // What is left of a piece between runs, by the machine's rows.
+    fn batch(&mut self, places: &mut [usize], statuses: &mut [u8]) -> usize {
+        let count = self.span.batch(places, statuses);
+        if count > 0 {
+            self.place = places[count - 1];
+            self.status = statuses[count - 1];
+        }
+        count
     }
 }

@@ -24,6 +24,7 @@ impl<I: Cursor, T: CodePointTest + Copy> Cursor for Prefix<I, T> {
 
     ghost rises = { λ s. prefix-rises (T.passes s.test) (I.text s.rest) (I.rises s.rest) };
 
+    #[inline(always)]
     fn next_item(&mut self) -> Option<(usize, u32)> {
         let mut after = self.rest.fork();
         let Some((place, code_point)) = after.next_item() else {
@@ -36,6 +37,7 @@ impl<I: Cursor, T: CodePointTest + Copy> Cursor for Prefix<I, T> {
         Some((place, code_point))
     }
 
+    #[inline(always)]
     fn next_ascii(&mut self) -> Option<(usize, u8)> {
         let mut after = self.rest.fork();
         let Some((place, character)) = after.next_ascii() else {
@@ -55,6 +57,7 @@ impl<I: Cursor, T: CodePointTest + Copy> Cursor for Prefix<I, T> {
         }
     }
 
+    #[inline(always)]
     fn is_at_end(&self) -> bool {
         match self.rest.fork().next_item() {
             Some((_, code_point)) => !self.test.accepts(code_point),
@@ -62,6 +65,7 @@ impl<I: Cursor, T: CodePointTest + Copy> Cursor for Prefix<I, T> {
         }
     }
 
+    #[inline(always)]
     fn place(&self) -> usize {
         self.rest.place()
     }
@@ -72,6 +76,7 @@ impl<I: Cursor, T: CodePointTest + Copy> Cursor for Prefix<I, T> {
         after.place()
     }
 
+    #[inline(always)]
     fn seek(&mut self, place: usize) {
         self.rest.seek(place);
     }

@@ -4,6 +4,7 @@ ghost use Rattle.std.specs.Prelude.{◌≡◌, [], MatchOption};
 ghost use Rattle.std.specs.Iterator.{YieldsFirst, item_count};
 ghost use Rattle.seg_text.specs.Items.{prefix_length, text_before};
 ghost use Rattle.seg_text.specs.Boundaries.{boundaries_in, later_boundaries};
+ghost use Rattle.seg_text.specs.Filled.{WritesSome};
 ghost use Rattle.seg_data.specs.ScriptWords.{borrowed_words};
 ghost use Rattle.seg_clusters.specs.Payloads.{payloads_of};
 ghost use Rattle.seg_machine.specs.Pick.{machine_stretch};
@@ -40,6 +41,7 @@ impl<'data> CodePointTest for BetweenRuns<'data> {
 
     ghost passes = { λ test. is_between (machine_of test.machine) (borrowed_words test.dictionaries) };
 
+    #[inline(always)]
     fn accepts(&self, code_point: u32) -> bool {
         is_outside_runs(self.machine, self.dictionaries, code_point)
     }
@@ -117,6 +119,20 @@ impl<'data, I: Cursor> Iterator for Span<'data, I> {
 }
 
 impl<'data, I: Cursor> Span<'data, I> {
+    /// Writes the places and the statuses of some of the boundaries over the first of both buffers, and returns how many: those of a piece by
+    /// the machine's rows, where it has them. Takes no memory.
+    pub(crate) fn batch(&mut self, places: &mut [usize], statuses: &mut [u8]) -> usize
+        ensures { WritesSome (span_left self.old) (span_left self.new) places.old places.new statuses.old statuses.new result }
+    {
+        match self {
+            Span::Piece(piece) => match piece.fill_both(places, statuses) {
+                Some(count) => count,
+                None => 0,
+            },
+            _ => 0,
+        }
+    }
+
     /// What is left of the boundaries, once more. Takes no memory.
     pub(crate) fn fork(&self) -> Self
         ensures { result ≡ self.now }

@@ -5,7 +5,7 @@ use Rattle.seg_machine.specs.Tailored.{machine_of}
 use Rattle.seg_clusters.specs.Payloads.{payloads_of, piece_cuts_by}
 use Rattle.seg_clusters.specs.Scripts.{CoverPieces}
 use Rattle.seg_words.specs.WordsLeft.{after_span, last_of, span_left, spans_left}
-use Rattle.seg_words.proofs.neo.NeoBoundariesIterator.next.Given as goal
+use Rattle.seg_words.proofs.neo.NeoBoundariesBoundarySource.next_boundary.Given as goal
 
 abbrev pub invariant-loop-boundary : goal.invariant-loop-boundary
 invariant-loop-boundary g l =

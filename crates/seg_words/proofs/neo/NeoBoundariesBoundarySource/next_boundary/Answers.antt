@@ -1,9 +1,8 @@
-use Rattle.std.proofs.Common.{ap, refl}
-use Rattle.seg_text.specs.Boundaries.{offsets}
+use Rattle.std.proofs.Common.{refl}
 use Rattle.seg_machine.specs.Tailored.{machine_of}
 use Rattle.seg_clusters.specs.Payloads.{payloads_of}
 use Rattle.seg_words.proofs.Spans.{end-left, first-last, first-less, first-next, gone-on, gone-to}
-use Rattle.seg_words.proofs.neo.NeoBoundariesIterator.next.Goals as goal
+use Rattle.seg_words.proofs.neo.NeoBoundariesBoundarySource.next_boundary.Goals as goal
 
 pub seek-requires : goal.seek-requires
 seek-requires g c =
@@ -34,8 +33,8 @@ loop-boundary-preserved g c =
       last = first-last m payloads c.loop-boundary.invariant.checked c.loop-boundary.invariant.cover (g.I.Cursor.text c.seek.new.self) c.in-Some-first_of.span s.place c.in-Some-first_of.ensures;
     }
 
-pub returns-in-None-clause-steps : goal.returns-in-None-clause-steps
-returns-in-None-clause-steps g c =
+pub returns-in-None : goal.returns-in-None
+returns-in-None g c =
     let s = c.loop-boundary.self-inside in
     let m = machine_of s.machine in
     let payloads = payloads_of s.payloads in
@@ -43,4 +42,4 @@ returns-in-None-clause-steps g c =
     s.has_begun (g.I.Cursor.text s.rest) (g.I.Cursor.text c.seek.new.self) s.place _ c.in_default.ensures.steps.0 c.loop-boundary.invariant.last c.seek.ensures in
     let none = end-left m payloads c.loop-boundary.invariant.checked c.loop-boundary.invariant.cover s.has_begun (g.I.Cursor.text c.seek.new.self) _ _ _
     c.in-None.ensures c.in_default.ensures.steps.0 c.in_default.ensures.steps.1 (rw (← gone) at c.loop-boundary.invariant.left) in
-    ((ap offsets none.0, ap offsets none.1), (none.0, none.1, refl))
+    (none.0, none.1, refl)
