@@ -1,12 +1,12 @@
 -- Buffers that are filled one by one.
-use Rattle.std.proofs.Common.{◌≡◌, ℕ, zero, suc, ◌+◌, ◌-◌, ◌<◌, ◌≤◌, List, [], ◌∷◌, ◌++◌, take, drop, set, slice_index, length, map, min, Bool, true, false, refl, sym, ap, ◌∙◌, subst, arith}
+use Rattle.std.proofs.Common.{◌≡◌, ℕ, zero, suc, ◌+◌, ◌-◌, ◌<◌, ◌≤◌, List, [], ◌∷◌, ◌++◌, take, drop, set, slice_index, length, map, Bool, true, false, refl, sym, ap, ◌∙◌, subst, arith}
 use Rattle.std.proofs.lemmas.Bool.{lt-ltb}
 use Rattle.std.proofs.lemmas.List.{append-nil, drop-map, drop_all, drop-append-le, length-append, length-drop, length-map, map-append, take-append-le, take_all}
 use borrow.Rule.Slice.PartMut.{mid_len, mid_of, put_mid}
 use Rattle.seg_text.specs.declared.boundary.Boundary.{Boundary}
 use Rattle.seg_text.specs.declared.reach.Reach.{Reach}
 use Rattle.seg_text.specs.Boundaries.{Remainder, RisesTo, AreAhead, AreLeft, boundary, offsets}
-use Rattle.seg_text.specs.Filled.{TakesFirst, WritesBoth, WritesSome, after_given, last_status, statuses}
+use Rattle.seg_text.specs.Filled.{TakesFirst, WritesSome, after_given, last_status, statuses}
 
 -- so many of all numbers were written, and these are left
 pub record Filling {X : Type 0} (all old now : List X) (index : ℕ) (left : List X) : Type 0 where
@@ -205,21 +205,6 @@ ahead-behind room before now boundaries old new count ahead taken more on here e
     rw (on, place, end) (subst (λ (n : ℕ). RisesTo (slice_index (offsets boundaries) (count - 1)) (drop n boundaries) before.end) one rises)
 
 -- Some boundaries that were written.
-
--- none were
-pub none-written : (boundaries : List Boundary) (places marks : List ℕ) → WritesSome boundaries boundaries places places marks marks 0
-none-written boundaries places marks = record { some = omega arith; room = omega arith; places = refl; statuses_are = refl; left = refl }
-
--- as many as there are and there is room for
-pub some-of-all : (room : ℕ) (before after : Remainder) (old new olds news : List ℕ) (count : ℕ) → room ≡ min (length old) (length olds)
-    → WritesBoth room before after old new olds news count → WritesSome before.left after.left old new olds news count
-some-of-all room before after old new olds news count is writes = record {
-  some = omega (arith, writes.places.few, length-map before.left (λ (b : Boundary). b.offset));
-  room = omega (arith, writes.places.few, is);
-  places = writes.places.first;
-  statuses_are = writes.statuses_are.first;
-  left = ap (λ (r : Remainder). r.left) writes.left;
-}
 
 -- others come behind them
 pub some-ahead : (before after more : List Boundary) (old new olds news : List ℕ) (count : ℕ) → WritesSome before after old new olds news count
