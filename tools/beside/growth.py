@@ -23,7 +23,7 @@ def slot_of(kind, lists):
     """Returns a segmenter of a kind with all five lists, and where its slot is."""
     segmenter = Segmenter(kind)
     assert len(segmenter.load_dictionaries(lists)) >= 4
-    return segmenter, segmenter._at
+    return segmenter, segmenter._slot.here
 
 
 def ends_of(slot, text, room, most):

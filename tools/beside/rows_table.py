@@ -24,7 +24,7 @@ def main(arguments):
     for kind in kinds or ("clusters", "words", "sentences", "lines"):
         times = [output(rows, text, "50", kind) for text in texts]
         for way, function in WAYS.items():
-            counts = "/".join(f"{instructions('pass', f'--toggle-collect={function}', rows, text, '1', kind) / LENGTH:.0f}" for text in texts)
+            counts = "/".join(f"{instructions('pass', f'--toggle-collect={function}*', rows, text, '1', kind) / LENGTH:.0f}" for text in texts)
             print(f"{kind:10} {way:10} {counts:12}", "/".join(re.search(rf"{way} ([\d.]+)", time)[1] for time in times), flush=True)
 
 
