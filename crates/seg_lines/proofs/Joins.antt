@@ -1,12 +1,12 @@
 -- What comes first of boundaries that are joined with cuts, and where both stand in a text.
-use Rattle.std.proofs.Common.{◌≡◌, ℕ, ◌<◌, ◌≤◌, inl, inr, ◌==◌, nat_lt, Bool, true, false, List, [], ◌∷◌, ◌++◌, length, map, refl, sym, ap, ◌∙◌, subst, arith, eq-eqb}
-use Rattle.std.specs.Prelude.{if◌then◌else◌, IfSome, Option, None, Some}
-use Rattle.std.specs.Iterator.{YieldsFirst}
+use Rattle.std.proofs.Common.{◌≡◌, ℕ, suc, ◌<◌, ◌≤◌, inl, inr, ◌==◌, nat_lt, Bool, true, false, List, [], ◌∷◌, ◌++◌, length, map, refl, sym, ap, ◌∙◌, subst, arith, eq-eqb}
+use Rattle.std.specs.Prelude.{if◌then◌else◌, IfSome, Option, None, Some, ⊤}
+use Rattle.std.specs.Iterator.{MakesProgress, YieldsFirst, item_count}
 use Rattle.std.specs.Option.{option_map, option_to_list}
 use Rattle.std.proofs.lemmas.Bool.{cases_lt, false_from_ne_true, lt-ltb, ltb-true, ne_eqb}
 use Rattle.seg_text.specs.declared.boundary.Boundary.{Boundary}
 use Rattle.seg_text.specs.Items.{Text, IsRising, start_of, rest_after}
-use Rattle.seg_text.specs.Boundaries.{boundary, boundary_in, offsets}
+use Rattle.seg_text.specs.Boundaries.{Remainder, boundary, boundary_in, offsets, offsets_left}
 use Rattle.seg_text.proofs.Covers.{place-between}
 use Rattle.seg_clusters.proofs.InnerCuts.{first-taken}
 use Rattle.seg_clusters.specs.Spans.{AreBeyond}
@@ -142,8 +142,7 @@ beyond-above : (place : ℕ) (cuts : List ℕ) → AreBeyond (Some place) cuts �
 beyond-above place [] beyond rising = tt
 beyond-above place (cut ∷ cuts) beyond rising = (beyond, above-more place cut cuts beyond rising.0)
 
--- .. with the one that is held
-pub cuts-above : (place : ℕ) (cut : Option ℕ) (cuts : List ℕ) → IfSome cut (λ first. place < first) → AreRising (option_to_list cut ++ cuts) → (cut ≡ None → AreBeyond (Some place) cuts)
+cuts-above : (place : ℕ) (cut : Option ℕ) (cuts : List ℕ) → IfSome cut (λ first. place < first) → AreRising (option_to_list cut ++ cuts) → (cut ≡ None → AreBeyond (Some place) cuts)
     → AreAbove place (option_to_list cut ++ cuts)
 cuts-above place None cuts before rising beyond = beyond-above place cuts (beyond refl) rising
 cuts-above place (Some cut) cuts before rising beyond = (before, above-more place cut cuts before rising.0)
@@ -187,3 +186,9 @@ module _ (held cut : Option ℕ) (before after : List ℕ) (same : option_to_lis
       ∙ ap (λ (cut : Option ℕ). joined (next ∷ all old) (option_to_list cut ++ after)) at
       ∙ both-first next.offset next (all old) after refl rising.0
       ∙ ap (λ (left : List Boundary). next ∷ joined left after) (sym taken)
+
+pub progress : (old new : Remainder) (next : Boundary) → old.left ≡ next ∷ new.left
+    → MakesProgress {S = Remainder} {A = ℕ} (λ x. ⊤) (item_count offsets_left) old (Some next.offset) new
+progress old new next is =
+    let more : length (offsets_left old) ≡ suc (length (offsets_left new)) = ap (λ (left : List Boundary). length (offsets left)) is in
+    record { on = λ finite. (tt, tt, omega (arith, more)); keeps = tt; rests = λ finite. tt }

@@ -1,6 +1,5 @@
 pub mod Faults
 pub mod Tailorings
-pub mod Batches
 pub mod Joins
 pub mod JoinCover
 pub mod JoinMembers

@@ -16,12 +16,11 @@ invariant_of-result g c =
     let m = machine_of c.args.machine in
     let payloads = payloads_of c.args.payloads in
     let text = g.I.Cursor.text c.args.text in
-    let boundaries : option_to_list c.next_of_machine-boundary.result ++ c.next_of_machine-boundary.new.machine.left ≡ c.new-boundaries.result.left =
-    first-taken all_left c.new-boundaries.result c.next_of_machine-boundary.new.machine c.next_of_machine-boundary.result c.next_of_machine-boundary.ensures in (
+    let boundaries : option_to_list c.next_boundary-boundary.result ++ c.next_boundary-boundary.new.machine.left ≡ c.new-boundaries.result.left =
+    first-taken all_left c.new-boundaries.result c.next_boundary-boundary.new.machine c.next_boundary-boundary.result c.next_boundary-boundary.ensures in (
       subst (λ (found : List Boundary). AreRising (offsets found)) (sym boundaries) (cover-rising c.new-boundaries.result.left _ _ c.new-boundaries.ensures.cover),
       subst AreRising (sym c.new.ensures) (cut-places-rising m payloads c.facts.ensures c.facts-2.ensures.pieces text (g.met.I.Cursor.rises c.args.text)),
-      no-more all_left c.new-boundaries.result c.next_of_machine-boundary.new.machine c.next_of_machine-boundary.result c.next_of_machine-boundary.ensures,
-      tt,
+      no-more all_left c.new-boundaries.result c.next_boundary-boundary.new.machine c.next_boundary-boundary.result c.next_boundary-boundary.ensures,
     )
 
 pub returns-clause-boundaries : goal.returns-clause-boundaries
@@ -29,8 +28,8 @@ returns-clause-boundaries g c =
     let m = machine_of c.args.machine in
     let payloads = payloads_of c.args.payloads in
     let text = g.I.Cursor.text c.args.text in
-    let boundaries : option_to_list c.next_of_machine-boundary.result ++ c.next_of_machine-boundary.new.machine.left ≡ c.new-boundaries.result.left =
-    first-taken all_left c.new-boundaries.result c.next_of_machine-boundary.new.machine c.next_of_machine-boundary.result c.next_of_machine-boundary.ensures in
+    let boundaries : option_to_list c.next_boundary-boundary.result ++ c.next_boundary-boundary.new.machine.left ≡ c.new-boundaries.result.left =
+    first-taken all_left c.new-boundaries.result c.next_boundary-boundary.new.machine c.next_boundary-boundary.result c.next_boundary-boundary.ensures in
     let all = boundaries ∙ c.new-boundaries.ensures.left ∙ ap (λ fork. boundaries_in (machine_boundaries m) (g.I.Cursor.text fork)) c.fork.ensures in
     ap (λ (found : List Boundary). joined found c.new.result) all
     ∙ ap (joined (boundaries_in (machine_boundaries m) text)) c.new.ensures
