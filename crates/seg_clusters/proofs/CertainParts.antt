@@ -1,5 +1,5 @@
 -- At a certain place a text may be split: scans before it stop there, whatever stands behind the symbol after it.
-use Rattle.std.proofs.Common.{◌≡◌, ℕ, zero, suc, ◌+◌, ◌-◌, ◌<◌, ◌≤◌, min, List, [], ◌∷◌, ◌++◌, length, drop, map, take, take_at, replicate, refl, sym, ap, ap₂, ◌∙◌, subst, inl, inr, arith, length-append}
+use Rattle.std.proofs.Common.{◌≡◌, ℕ, zero, suc, ◌+◌, ◌-◌, ◌<◌, ◌≤◌, min, List, [], ◌∷◌, ◌++◌, length, drop, map, take, take_at, replicate, refl, sym, ap, ◌∙◌, subst, inl, inr, arith, length-append}
 use Rattle.std.specs.Prelude.{Some, None}
 use Rattle.std.specs.Option.{option_map}
 use Rattle.std.proofs.lemmas.Bool.{cases_eq}
@@ -266,13 +266,3 @@ pub splits-by : (rules : Rules) (m : Machine) → rules ≡ ByMachine m → IsCh
 splits-by rules m is checked before one other =
     subst (λ (rules : Rules). AreCertain rules before one other → SplitsBetween (boundaries_by rules) before one other) (sym is)
     (certain-splits m checked before one other)
-
--- what finds the same boundaries splits so
-pub splits-as : (find found_by : List ℕ → List Boundary) → ((code_points : List ℕ) → find code_points ≡ found_by code_points) → (before one other : ℕ)
-    → SplitsBetween found_by before one other → SplitsBetween find before one other
-splits-as find found_by same before one other splits earlier later =
-    same (earlier ++ before ∷ one ∷ other ∷ later)
-    ∙ splits earlier later
-    ∙ sym
-    (ap₂ (λ (ended more : List Boundary). without_last ended ++ shift_all (length earlier + 2) (drop 1 more))
-    (same (earlier ++ before ∷ one ∷ other ∷ [])) (same (other ∷ later)))

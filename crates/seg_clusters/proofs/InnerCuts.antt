@@ -42,10 +42,6 @@ pub no-more : {S A : Type 0} (left : S → List A) (old new : S) (given : Option
 no-more left old new None (none, still) is = still
 no-more left old new (Some first) gives is = absurd cc
 
-last-held : (held : Option ℕ) (cuts : List ℕ) → cuts ≡ [] → but_the_last (option_to_list held ++ cuts) ≡ []
-last-held None cuts none = ap but_the_last none
-last-held (Some cut) cuts none = ap (λ (later : List ℕ). but_the_last (cut ∷ later)) none
-
 module _ (m : Machine) (payloads : Payloads) (cover : CoverPieces (piece_cuts_by payloads)) where
   abbrev pub clusters : Clusters
   clusters = boundaries_by payloads.clusters
@@ -101,28 +97,3 @@ module _ (m : Machine) (payloads : Payloads) (cover : CoverPieces (piece_cuts_by
       ∙ ap (λ (first : Text). but_the_last (cut_places (span_cuts clusters words) first) ++ cut_places (inner_cuts m payloads) (rest_after n before)) (sym gives.1)
       ∙ ap (λ (words : Option Words). but_the_last (cut_places (span_cuts clusters words) (text span.0)) ++ cut_places (inner_cuts m payloads) (rest_after n before)) (sym gives.2)
       ∙ ap (λ (rest : Text). but_the_last (cut_places (span_cuts clusters (option_map words_after span.1)) (text span.0)) ++ cut_places (inner_cuts m payloads) rest) (sym gives.3)
-
-  -- nothing was left of a run, and the next span was given, with its cuts, of which the first is held
-  pub inner-left : {I S : Type 0} (text : I → Text) (cuts : S → List ℕ) (before after : Text) (span : I × Option DictionaryCursor)
-      (held later : Option ℕ) (none left : List ℕ) (run rest : S)
-      → GivesSpan m payloads.words text before (Some span) after → none ≡ []
-      → cuts run ≡ cut_places (span_cuts clusters (option_map words_after span.1)) (text span.0) → YieldsFirst cuts run later rest
-      → but_the_last (option_to_list held ++ none) ++ cut_places (inner_cuts m payloads) before ≡ left
-      → but_the_last (option_to_list later ++ cuts rest) ++ cut_places (inner_cuts m payloads) after ≡ left
-  inner-left text cuts before after span held later none left run rest gives nothing are first is =
-      ap (λ (found : List ℕ). but_the_last found ++ cut_places (inner_cuts m payloads) after) (first-taken cuts run rest later first ∙ are)
-      ∙ sym (inner-next text before after span gives)
-      ∙ ap (λ (some : List ℕ). some ++ cut_places (inner_cuts m payloads) before) (sym (last-held held none nothing))
-      ∙ is
-
-  -- nothing was left
-  pub inner-end : {I : Type 0} (text : I → Text) (before after : Text) (held : Option ℕ) (none still left : List ℕ)
-      → GivesSpan m payloads.words text before None after → none ≡ [] → still ≡ []
-      → but_the_last (option_to_list held ++ none) ++ cut_places (inner_cuts m payloads) before ≡ left
-      → (left ≡ []) × (but_the_last (option_to_list held ++ still) ++ cut_places (inner_cuts m payloads) after ≡ [])
-  inner-end text before after held none still left gives nothing empty is =
-      let end : cut_places (inner_cuts m payloads) before ≡ [] =
-      ap (λ (items : List Item). cut_places (inner_cuts m payloads) (record { items = items; end = before.end })) gives.0 ∙ inner-nil before.end in (
-        sym is ∙ ap (λ (some : List ℕ). some ++ cut_places (inner_cuts m payloads) before) (last-held held none nothing) ∙ end,
-        ap (λ (some : List ℕ). some ++ cut_places (inner_cuts m payloads) after) (last-held held still empty) ∙ ap (cut_places (inner_cuts m payloads)) gives.1 ∙ end,
-      )

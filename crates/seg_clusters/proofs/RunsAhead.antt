@@ -1,5 +1,5 @@
 -- Runs of scripts that have words, and what stands between them.
-use Rattle.std.proofs.Common.{◌≡◌, ℕ, suc, ◌+◌, ◌-◌, ◌<◌, ◌≤◌, ◌==◌, Bool, true, false, List, [], ◌∷◌, ◌++◌, length, map, refl, sym, ap, ◌∙◌, arith}
+use Rattle.std.proofs.Common.{◌≡◌, ℕ, zero, suc, ◌+◌, ◌-◌, ◌<◌, ◌≤◌, ◌==◌, Bool, true, false, List, [], ◌∷◌, ◌++◌, length, map, refl, sym, ap, ◌∙◌, arith}
 use Rattle.std.specs.Prelude.{Option, None, Some, IsTrue, ◌↔◌}
 use Rattle.std.specs.List.{prefix_len}
 use Rattle.std.proofs.lemmas.List.{length-drop, length-map}
@@ -12,6 +12,8 @@ use Rattle.seg_data.specs.declared.provider.dictionary.cursor.DictionaryCursor.{
 use Rattle.seg_data.specs.ScriptWords.{ScriptWords, words_after, words_in}
 use Rattle.seg_data.specs.WordSets.{Words}
 use Rattle.seg_machine.specs.Machine.{Machine, symbol_and_script}
+use Rattle.seg_machine.proofs.Scanned.{after-after}
+use Rattle.seg_rows.specs.Underway.{HasPassed, IsLater}
 use Rattle.seg_clusters.specs.DictionaryCuts.{dictionary_cuts}
 use Rattle.seg_clusters.specs.Payloads.{Payloads, piece_cuts_by}
 use Rattle.seg_clusters.specs.Rules.{boundaries_by}
@@ -37,6 +39,15 @@ number-is scripts.Thai false is = refl
 -- a code point stands in no run, so it stands between them
 pub between-is : (m : Machine) (words : ScriptWords) (code_point : ℕ) (found : Bool) → (IsTrue found ↔ IsOutsideRuns m words code_point) → found ≡ is_between m words code_point
 between-is m words code_point found is = number-is (worded_script m words code_point) found is
+
+-- what is left later is left of what was left before
+pub later-later : (text some left : Text) → IsLater text some → IsLater some left → IsLater text left
+later-later text some left (count, here) (more, there) = (count + more, there ∙ ap (rest_after more) here ∙ after-after more count text)
+
+-- behind a span some of the text is left
+pub span-later : {I : Type 0} (m : Machine) (words : ScriptWords) (text : I → Text) (before after : Text) (span : I × Option DictionaryCursor)
+    → GivesSpan m words text before (Some span) after → IsLater before after
+span-later m words text before after span gives = (span_length m words (code_points before.items), gives.3)
 
 module _ (m : Machine) (payloads : Payloads) where
   pub unworded : (first : ℕ) → words_in payloads.words (symbol_and_script m first).1 ≡ None → worded_script m payloads.words first ≡ scripts.None
@@ -108,6 +119,31 @@ module _ (m : Machine) (payloads : Payloads) where
       where
         same : (before after : Text) (item : Item) → before.items ≡ item ∷ after.items → after.end ≡ before.end → before ≡ record { items = item ∷ after.items; end = after.end }
         same before after item is end = rw (← is, ← end) refl
+
+    -- so are many, all between runs
+    over-items : (items : List Item) (end count : ℕ) → count ≤ prefix_len (is_between m payloads.words) (code_points items)
+        → inside (record { items = items; end = end }) ≡ inside (rest_after count (record { items = items; end = end }))
+    over-items items end zero few = refl
+    over-items [] end (suc count) few = absurd (omega (arith, few))
+    over-items (item ∷ items) end (suc count) few = by (is_between m payloads.words item.1) refl (λ within. over-items items end count within)
+      where
+        passes : ℕ → Bool
+        passes = is_between m payloads.words
+
+        by : (b : Bool) → passes item.1 ≡ b
+            → (count ≤ prefix_len passes (code_points items) → inside (record { items = items; end = end }) ≡ inside (rest_after count (record { items = items; end = end })))
+            → inside (record { items = item ∷ items; end = end }) ≡ inside (rest_after (suc count) (record { items = item ∷ items; end = end }))
+        by true pass later =
+            let script = between-script (worded_script m payloads.words item.1) pass in
+            let more = one-more passes item.1 (code_points items) pass in
+            piece-none item items end script
+            ∙ ap (λ (n : ℕ). inside (rest_after n (record { items = item ∷ items; end = end }))) more
+            ∙ sym (between-none items end)
+            ∙ later (omega (arith, few, more))
+        by false stop later = absurd (omega (arith, few, no-more passes item.1 (code_points items) stop))
+
+    pub over-passed : (before after : Text) → HasPassed (is_between m payloads.words) before after → inside before ≡ inside after
+    over-passed before after (count, few, is) = over-items before.items before.end count few ∙ ap inside (sym is)
 
     -- no cut stands at the start of a text
     above-start : (text : Text) (cuts : List ℕ) → IsRising text.items text.end → AreBetween 0 cuts (length text.items)

@@ -77,6 +77,14 @@ inner_stretch m payloads code_points =
 abbrev pub inner_cuts : Machine → Payloads → Cuts
 inner_cuts m payloads code_points = offsets (later_boundaries (inner_stretch m payloads) code_points)
 
+-- what is left of the cuts of a text: those of a run, and those of what stands behind it
+pub record CutsLeft : Type 0 where
+  pub run : List ℕ
+  pub rest : Text
+
+abbrev pub cuts_left : Machine → Payloads → CutsLeft → List ℕ
+cuts_left m payloads left = left.run ++ cut_places (inner_cuts m payloads) left.rest
+
 -- no cut stands up to a place; where there is no such place, no cut at all
 abbrev pub AreBeyond : Option ℕ → List ℕ → Type 0
 AreBeyond None cuts = cuts ≡ []

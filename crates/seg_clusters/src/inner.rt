@@ -1,9 +1,10 @@
 //! The cuts strictly inside the runs of a text, where a machine tells the runs.
 
-ghost use Rattle.std.specs.Prelude.{◌≡◌, ◌≤◌, ℕ, Some, IsTrue};
-ghost use Rattle.seg_text.specs.Boundaries.{cut_places};
+ghost use Rattle.std.specs.Prelude.{◌≡◌, ◌≤◌, ℕ, [], Some, IsTrue};
+ghost use Rattle.seg_text.specs.Items.{start_of};
 ghost use Rattle.seg_machine.specs.Tailored.{machine_of};
-ghost use Rattle.seg_clusters.specs.Spans.{inner_cuts, GivesRun, GivesUpTo};
+ghost use Rattle.seg_clusters.specs.Spans.{cuts_left, GivesRun, GivesUpTo};
+ghost use Rattle.seg_rows.specs.Underway.{IsLater};
 ghost use Rattle.seg_clusters.specs.Payloads.{payloads_of};
 
 use crate::complex::ComplexPayloadsBorrowed;
@@ -19,46 +20,44 @@ use std::marker::Model;
 /// each is cut by these. Takes no memory.
 #[derive(Drop)]
 pub struct InnerCuts<'data, I: Cursor> {
-    machine: TailoredMachineBorrowed<'data>,
-    payloads: ComplexPayloadsBorrowed<'data>,
     // The cut of the run that came last and wasn't given, since it may be the run's end.
     held: Option<usize>,
     // The cuts of the run after it.
     run: PieceIterator<'data, I>,
+    // The text behind that run.
     rest: I,
 }
 
 impl<'data, I: Cursor> Model for InnerCuts<'data, I> {
-    ghost use Rattle.std.specs.Prelude.{◌≡◌, ◌++◌, None, ℕ, List, []};
+    ghost use Rattle.std.specs.Prelude.{◌≡◌, ◌++◌, None, []};
     ghost use Rattle.std.specs.Option.{option_to_list};
-    ghost use Rattle.seg_text.specs.Boundaries.{cut_places};
-    ghost use Rattle.seg_machine.specs.Tailored.{machine_of};
-    ghost use Rattle.seg_clusters.specs.Spans.{inner_cuts, but_the_last};
-    ghost use Rattle.seg_clusters.specs.Payloads.{payloads_of, piece_left};
+    ghost use Rattle.seg_clusters.specs.Spans.{CutsLeft, but_the_last};
+    ghost use Rattle.seg_clusters.specs.Payloads.{piece_left};
 
-    ghost Value = { List ℕ };
+    ghost Value = { CutsLeft };
 
-    ghost view = { λ s. but_the_last (option_to_list s.held ++ piece_left s.run) ++ cut_places (inner_cuts (machine_of s.machine) (payloads_of s.payloads)) (I.text s.rest) };
+    ghost view = { λ s. record { run = but_the_last (option_to_list s.held ++ piece_left s.run); rest = I.text s.rest } };
 
     ghost invariant = { λ s. s.held ≡ None → piece_left s.run ≡ [] };
 }
 
 impl<'data, I: Cursor> InnerCuts<'data, I> {
     /// The cuts of what is left of a text. Takes no memory.
-    pub fn new(
-        machine: TailoredMachineBorrowed<'data>,
-        payloads: ComplexPayloadsBorrowed<'data>,
-        text: I,
-    ) -> Self
-        ensures { result ≡ cut_places (inner_cuts (machine_of machine.entry) (payloads_of payloads.entry)) (I.text text) }
+    pub fn new(text: I) -> Self
+        ensures { result ≡ record { run = []; rest = I.text text } }
     {
         InnerCuts {
-            machine,
-            payloads,
             held: None,
             run: PieceIterator::End(None),
             rest: text,
         }
+    }
+
+    /// Whether runs are looked for from this place on: no cut is left of a run before it.
+    pub fn is_at(&self, place: usize) -> bool
+        ensures { IsTrue result → (self.now.run ≡ []) × (start_of self.now.rest ≡ place) }
+    {
+        self.held.is_none() && self.rest.place() == place
     }
 }
 
@@ -79,7 +78,8 @@ fn next_run<'data, I: Cursor>(
     rest: &mut I,
     last: Option<usize>,
 ) -> Option<(I, DictionaryCursor<'data>)>
-    ensures { GivesRun (machine_of machine.entry) (payloads_of payloads.entry) I.text last (I.text rest.old) result (I.text rest.new) }
+    ensures run { GivesRun (machine_of machine.entry) (payloads_of payloads.entry) I.text last (I.text rest.old) result (I.text rest.new) }
+    ensures on { IsLater (I.text rest.old) (I.text rest.new) }
 {
     payloads.facts();
     'items: loop {
@@ -101,22 +101,25 @@ fn next_run<'data, I: Cursor>(
 impl<'data, I: Cursor> InnerCuts<'data, I> {
     /// The next cut, which may stand behind `last`. None where no cut is left, or each stands behind it: of what stands between runs nothing
     /// is read from there on. Takes no memory.
-    pub fn next_up_to(&mut self, last: Option<usize>) -> Option<usize>
-        ensures { GivesUpTo last self.old result self.new }
+    pub fn next_up_to(
+        &mut self,
+        machine: TailoredMachineBorrowed<'data>,
+        payloads: ComplexPayloadsBorrowed<'data>,
+        last: Option<usize>,
+    ) -> Option<usize>
+        ensures cut { let left = cuts_left (machine_of machine.entry) (payloads_of payloads.entry) in GivesUpTo last (left self.old) result (left self.new) }
+        ensures on { IsLater self.old.rest self.new.rest }
     {
-        self.payloads.facts();
+        payloads.facts();
         loop {
             if let Some(place) = self.run.next() {
                 let before = self.held;
                 self.held = Some(place);
                 return before;
             }
-            let (run, words) = next_run(self.machine, self.payloads, &mut self.rest, last)?;
-            self.run = PieceIterator::Words(DictionaryCuts::new(
-                words,
-                self.payloads.clusters,
-                run,
-            ));
+            self.held = None;
+            let (run, words) = next_run(machine, payloads, &mut self.rest, last)?;
+            self.run = PieceIterator::Words(DictionaryCuts::new(words, payloads.clusters, run));
             self.held = self.run.next();
         }
     }
@@ -128,8 +131,6 @@ impl<'data, I: Cursor> InnerCuts<'data, I> {
         ensures { result ≡ self.now }
     {
         InnerCuts {
-            machine: self.machine,
-            payloads: self.payloads,
             held: self.held,
             run: self.run.fork(),
             rest: self.rest.fork(),

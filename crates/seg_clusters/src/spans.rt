@@ -60,6 +60,28 @@ pub fn is_outside_runs(
     worded_script(machine, dictionaries, code_point) == ComplexScript::None
 }
 
+/// Whether code points stand between runs: by a machine, in no run of a script that has words.
+#[derive(Clone, Copy)]
+pub struct BetweenRuns<'data> {
+    /// The machine.
+    pub machine: TailoredMachineBorrowed<'data>,
+    /// The words of scripts.
+    pub dictionaries: DictionariesBorrowed<'data>,
+}
+
+impl<'data> CodePointTest for BetweenRuns<'data> {
+    ghost use Rattle.seg_data.specs.ScriptWords.{borrowed_words};
+    ghost use Rattle.seg_machine.specs.Tailored.{machine_of};
+    ghost use Rattle.seg_clusters.specs.Spans.{is_between};
+
+    ghost passes = { λ test. is_between (machine_of test.machine) (borrowed_words test.dictionaries) };
+
+    #[inline(always)]
+    fn accepts(&self, code_point: u32) -> bool {
+        is_outside_runs(self.machine, self.dictionaries, code_point)
+    }
+}
+
 /// Whether between two code points another span begins: the scripts that have words, which the machine tells of them, differ.
 pub fn begins_span(
     machine: TailoredMachineBorrowed<'_>,

@@ -105,6 +105,11 @@ module _ (m : Machine) (payloads : Payloads) (checked : IsChecked m) (cover : Co
     pub text-cover : IsCover (start_of text) text.end (boundaries_in (boundaries_with (ByMachine m) payloads) text)
     text-cover = covers-in text (boundaries_with (ByMachine m) payloads counted) rising (rw same-length at (counted-cover counted))
 
+    pub plain-text-rising : AreRising (offsets (boundaries_in (machine_boundaries m) text))
+    plain-text-rising =
+        let whole : IsCover 0 (length counted) (machine_boundaries m counted) = (refl, plain-rises counted) in
+        cover-rising (boundaries_in (machine_boundaries m) text) (start_of text) text.end (covers-in text (machine_boundaries m counted) rising (rw same-length at whole))
+
     cuts-between : AreBetween 0 (inner_cuts m payloads counted) (length text.items)
     cuts-between = subst (AreBetween 0 (inner_cuts m payloads counted)) same-length (inner-between m payloads cover counted)
 

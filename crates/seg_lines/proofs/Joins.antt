@@ -1,14 +1,12 @@
 -- What comes first of boundaries that are joined with cuts, and where both stand in a text.
-use Rattle.std.proofs.Common.{◌≡◌, ℕ, suc, ◌<◌, ◌≤◌, inl, inr, ◌==◌, nat_lt, Bool, true, false, List, [], ◌∷◌, ◌++◌, length, map, refl, sym, ap, ◌∙◌, subst, arith, eq-eqb}
-use Rattle.std.specs.Prelude.{if◌then◌else◌, IfSome, Option, None, Some, ⊤}
-use Rattle.std.specs.Iterator.{MakesProgress, YieldsFirst, item_count}
+use Rattle.std.proofs.Common.{◌≡◌, ℕ, ◌<◌, ◌≤◌, inl, inr, ◌==◌, nat_lt, Bool, true, false, List, [], ◌∷◌, ◌++◌, length, map, refl, sym, ap, ◌∙◌, subst, arith, eq-eqb}
+use Rattle.std.specs.Prelude.{if◌then◌else◌, IfSome, Option, None, Some}
 use Rattle.std.specs.Option.{option_map, option_to_list}
 use Rattle.std.proofs.lemmas.Bool.{cases_lt, false_from_ne_true, lt-ltb, ltb-true, ne_eqb}
 use Rattle.seg_text.specs.declared.boundary.Boundary.{Boundary}
 use Rattle.seg_text.specs.Items.{Text, IsRising, start_of, rest_after}
-use Rattle.seg_text.specs.Boundaries.{Remainder, boundary, boundary_in, offsets, offsets_left}
+use Rattle.seg_text.specs.Boundaries.{boundary, boundary_in, offsets}
 use Rattle.seg_text.proofs.Covers.{place-between}
-use Rattle.seg_clusters.proofs.InnerCuts.{first-taken}
 use Rattle.seg_clusters.specs.Spans.{AreBeyond}
 use Rattle.seg_lines.specs.LineBreaks.{AreAbove, AreRising, joined, with_cut}
 
@@ -138,7 +136,7 @@ all-above place None left before rising none = rw (none refl) tt
 all-above place (Some found) left before rising none = (before, above-more place found.offset (offsets left) before rising.0)
 
 -- cuts that rise and stand beyond a place
-beyond-above : (place : ℕ) (cuts : List ℕ) → AreBeyond (Some place) cuts → AreRising cuts → AreAbove place cuts
+pub beyond-above : (place : ℕ) (cuts : List ℕ) → AreBeyond (Some place) cuts → AreRising cuts → AreAbove place cuts
 beyond-above place [] beyond rising = tt
 beyond-above place (cut ∷ cuts) beyond rising = (beyond, above-more place cut cuts beyond rising.0)
 
@@ -164,31 +162,21 @@ module _ (held cut : Option ℕ) (before after : List ℕ) (same : option_to_lis
       ∙ ap (λ (cut : Option ℕ). joined (option_to_list found ++ left) (option_to_list cut ++ after)) is
       ∙ cut-first place (option_to_list found ++ left) after (all-above place found left ahead rising none) first.0
 
-  pub boundary-step : {S : Type 0} (all : S → List Boundary) (found given : Option Boundary) (old new : S) (next : Boundary)
-      → found ≡ Some next → IfSome cut (λ place. next.offset < place) → (cut ≡ None → AreBeyond (offset_of found) after) → YieldsFirst all old given new
-      → joined (option_to_list found ++ all old) (option_to_list held ++ before) ≡ next ∷ joined (option_to_list given ++ all new) (option_to_list cut ++ after)
-  boundary-step all found given old new next is ahead beyond gives =
-      let taken : option_to_list given ++ all new ≡ all old = first-taken all old new given gives in
+  pub boundary-step : (found : Option Boundary) (left : List Boundary) (next : Boundary)
+      → found ≡ Some next → IfSome cut (λ place. next.offset < place) → (cut ≡ None → AreBeyond (offset_of found) after)
+      → joined (option_to_list found ++ left) (option_to_list held ++ before) ≡ next ∷ joined left (option_to_list cut ++ after)
+  boundary-step found left next is ahead beyond =
       let far : cut ≡ None → AreBeyond (Some next.offset) after = λ none. subst (λ (found : Option Boundary). AreBeyond (offset_of found) after) is (beyond none) in
-      ap (joined (option_to_list found ++ all old)) (sym same)
-      ∙ ap (λ (found : Option Boundary). joined (option_to_list found ++ all old) (option_to_list cut ++ after)) is
-      ∙ boundary-first next (all old) (option_to_list cut ++ after) (cuts-above next.offset cut after ahead taken-rises far)
-      ∙ ap (λ (left : List Boundary). next ∷ joined left (option_to_list cut ++ after)) (sym taken)
+      ap (joined (option_to_list found ++ left)) (sym same)
+      ∙ ap (λ (found : Option Boundary). joined (option_to_list found ++ left) (option_to_list cut ++ after)) is
+      ∙ boundary-first next left (option_to_list cut ++ after) (cuts-above next.offset cut after ahead taken-rises far)
 
-  pub both-step : {S : Type 0} (all : S → List Boundary) (found given : Option Boundary) (old new : S) (next : Boundary)
-      → found ≡ Some next → cut ≡ Some next.offset → YieldsFirst all old given new
-      → joined (option_to_list found ++ all old) (option_to_list held ++ before) ≡ next ∷ joined (option_to_list given ++ all new) after
-  both-step all found given old new next is at gives =
-      let taken : option_to_list given ++ all new ≡ all old = first-taken all old new given gives in
+  pub both-step : (found : Option Boundary) (left : List Boundary) (next : Boundary)
+      → found ≡ Some next → cut ≡ Some next.offset
+      → joined (option_to_list found ++ left) (option_to_list held ++ before) ≡ next ∷ joined left after
+  both-step found left next is at =
       let rising : AreRising (next.offset ∷ after) = subst (λ (cut : Option ℕ). AreRising (option_to_list cut ++ after)) at taken-rises in
-      ap (joined (option_to_list found ++ all old)) (sym same)
-      ∙ ap (λ (found : Option Boundary). joined (option_to_list found ++ all old) (option_to_list cut ++ after)) is
-      ∙ ap (λ (cut : Option ℕ). joined (next ∷ all old) (option_to_list cut ++ after)) at
-      ∙ both-first next.offset next (all old) after refl rising.0
-      ∙ ap (λ (left : List Boundary). next ∷ joined left after) (sym taken)
-
-pub progress : (old new : Remainder) (next : Boundary) → old.left ≡ next ∷ new.left
-    → MakesProgress {S = Remainder} {A = ℕ} (λ x. ⊤) (item_count offsets_left) old (Some next.offset) new
-progress old new next is =
-    let more : length (offsets_left old) ≡ suc (length (offsets_left new)) = ap (λ (left : List Boundary). length (offsets left)) is in
-    record { on = λ finite. (tt, tt, omega (arith, more)); keeps = tt; rests = λ finite. tt }
+      ap (joined (option_to_list found ++ left)) (sym same)
+      ∙ ap (λ (found : Option Boundary). joined (option_to_list found ++ left) (option_to_list cut ++ after)) is
+      ∙ ap (λ (cut : Option ℕ). joined (next ∷ left) (option_to_list cut ++ after)) at
+      ∙ both-first next.offset next left after refl rising.0

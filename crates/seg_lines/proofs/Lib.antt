@@ -10,3 +10,4 @@ pub mod Memos
 pub mod SplitLines
 pub mod CertainLines
 pub mod Progress
+pub mod Batches

@@ -2,8 +2,8 @@
 use Rattle.std.specs.Prelude.{◌≡◌, ◌⊎◌, ◌↔◌, ℕ, ◌<◌, ◌==◌, nat_lt, if◌then◌else◌, List, [], ◌∷◌, Option, None, Some, IfSome, slice_get}
 use Rattle.std.specs.List.{Contains}
 use Rattle.seg_text.specs.declared.boundary.Boundary.{Boundary}
-use Rattle.seg_text.specs.Boundaries.{boundary, offsets, boundaries_in, AreBoundaries, AreLaterBoundaries, Stretch, list_boundaries, with_status, Remainder}
-use Rattle.seg_text.specs.Items.{Text}
+use Rattle.seg_text.specs.Boundaries.{boundary, offsets, boundaries_in, AreBoundaries, AreLaterBoundaries, Stretch, list_boundaries, with_status}
+use Rattle.seg_text.specs.Items.{IsRising, Text}
 use Rattle.seg_data.specs.ScriptWords.{ScriptWords, no_words}
 use Rattle.seg_pairs.specs.PairTable.{PairTable}
 use Rattle.seg_machine.specs.Machine.{Machine}
@@ -13,6 +13,7 @@ use Rattle.seg_clusters.specs.Rules.{boundaries_by, first_stretch, machine_in, R
 use Rattle.seg_clusters.specs.Rules.Rules.{ByMachine as ByClusterMachine, ByTable as ByClusterTable}
 use Rattle.seg_clusters.specs.Spans.{inner_cuts, inner_stretch, IsOutsideRuns, IsSpanEdge}
 use Rattle.seg_clusters.specs.Payloads.{Payloads, run_cuts_by}
+use Rattle.seg_rows.specs.Underway.{IsLater}
 use Rattle.seg_line_pairs.specs.declared.options.LineBreakStrictness.{LineBreakStrictness}
 use Rattle.seg_line_pairs.specs.declared.options.LineBreakStrictness.TheVariants as strictness
 use Rattle.seg_line_pairs.specs.LineBoundaries.{HasComplexCodePoint, inside, line_boundaries, line_stretch}
@@ -54,6 +55,10 @@ IsCutAlone boundaries cuts found = (found.status ≡ 0) × Contains cuts found.o
 pub record IsJoin (boundaries : List Boundary) (cuts : List ℕ) (found : List Boundary) : Type 0 where
   pub rises : AreRising (offsets found)
   pub holds : (one : Boundary) → Contains found one ↔ (Contains boundaries one ⊎ IsCutAlone boundaries cuts one)
+
+-- both are what is left of one text
+abbrev pub AreOfOneText : Text → Text → Type 0
+AreOfOneText one other = (whole : Text) × IsRising whole.items whole.end × IsLater whole one × IsLater whole other
 
 -- What comes first of the next boundary and the next cut.
 
@@ -223,6 +228,3 @@ abbrev pub HasNoMandatoryBreak : List Boundary → Type 0
 HasNoMandatoryBreak found = (k : ℕ) (one : Boundary) → slice_get found k ≡ Some one → one.status ≡ 0
 
 -- All boundaries that an engine has still to give.
-
-abbrev pub all_left : Remainder → List Boundary
-all_left remainder = remainder.left

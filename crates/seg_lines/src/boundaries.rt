@@ -20,6 +20,7 @@ use seg_line_pairs::events::LineEvents;
 use seg_line_turns::boundaries::turn_lines;
 use seg_line_turns::turn_events::TurnEvents;
 use seg_machine::tailored_machine::TailoredMachineBorrowed;
+use seg_text::batches::{write_both_by_batches, write_places_by_batches};
 use seg_text::cursor::Cursor;
 use seg_text::reach::{BoundarySource, BufferSource, HintedBoundaries, write_both, write_places};
 
@@ -97,7 +98,7 @@ impl<'data, I: Cursor> BoundarySource for LineBoundaries<'data, I> {
             LineBoundaries::Unmarked(places) => places.next(),
             LineBoundaries::Classic(engine) => engine.next(),
             LineBoundaries::Turns(engine) => engine.next(),
-            LineBoundaries::Joined(engine) => engine.next(),
+            LineBoundaries::Joined(engine) => engine.next_boundary(),
         }
     }
 
@@ -107,7 +108,7 @@ impl<'data, I: Cursor> BoundarySource for LineBoundaries<'data, I> {
             LineBoundaries::Unmarked(places) => places.status(),
             LineBoundaries::Classic(engine) => engine.status(),
             LineBoundaries::Turns(engine) => engine.status(),
-            LineBoundaries::Joined(engine) => engine.status(),
+            LineBoundaries::Joined(engine) => engine.last_status(),
         }
     }
 
@@ -126,6 +127,7 @@ impl<'data, I: Cursor> BufferSource for LineBoundaries<'data, I> {
     fn fill(&mut self, places: &mut [usize]) -> usize {
         match self {
             LineBoundaries::Plain(engine) => engine.fill(places),
+            LineBoundaries::Joined(engine) => write_places_by_batches(engine, places),
             _ => write_places(self, places),
         }
     }
@@ -133,6 +135,7 @@ impl<'data, I: Cursor> BufferSource for LineBoundaries<'data, I> {
     fn fill_both(&mut self, places: &mut [usize], statuses: &mut [u8]) -> usize {
         match self {
             LineBoundaries::Plain(engine) => engine.fill_both(places, statuses),
+            LineBoundaries::Joined(engine) => write_both_by_batches(engine, places, statuses),
             _ => write_both(self, places, statuses),
         }
     }

@@ -1,6 +1,6 @@
 -- What stands in the rows of a machine, and what an entry tells.
-use Rattle.std.proofs.Common.{◌≡◌, ◌≢◌, ℕ, ◌+◌, ◌-◌, ◌*◌, ◌/◌, ◌%◌, ◌<◌, Option, Some, None, List, [], ◌∷◌, ◌++◌, length, slice_index, IsSome, refl, ap, ◌∙◌, arith, subst, inl, inr}
-use Rattle.std.proofs.lemmas.Bool.{cases_lt, lt-ltb, le-ltb}
+use Rattle.std.proofs.Common.{◌≡◌, ◌≢◌, ℕ, ◌+◌, ◌*◌, ◌/◌, ◌%◌, ◌<◌, Option, Some, None, List, [], ◌∷◌, ◌++◌, length, slice_index, IsSome, refl, ap, ◌∙◌, arith, subst, inl, inr}
+use Rattle.std.proofs.lemmas.Bool.{cases_lt, lt-ltb}
 use Rattle.std.proofs.lemmas.List.{get_or_append_left, get_or_push}
 use Rattle.std.specs.Prelude.{IfSome}
 use Rattle.std.specs.Option.{option_map_or}
@@ -24,14 +24,6 @@ pub entry-ascii : (m : Machine) (entries : List ℕ) (row state place : ℕ) →
     → place < 128 → slice_index entries (row + place) ≡ row_entry m (row / 256) (symbol_and_script m place).0
 entry-ascii m entries row state place rows is within below =
     entry-in m entries row state place rows is within (omega arith) ∙ rw (lt-ltb place 128 below) refl
-
-pub entry-wide : (m : Machine) (entries : List ℕ) (row state symbol : ℕ) → AreRows m entries → row ≡ state * 256 → state < length m.states
-    → symbol < 128 → symbol < symbol_count m → slice_index entries (row + 128 + symbol) ≡ row_entry m (row / 256) symbol
-entry-wide m entries row state symbol rows is within below known =
-    let place : row + 128 + symbol ≡ row + (128 + symbol) = omega arith in
-    let less : (128 + symbol) - 128 ≡ symbol = omega arith in
-    ap (slice_index entries) place ∙ entry-in m entries row state (128 + symbol) rows is within (omega arith)
-    ∙ rw (le-ltb (128 + symbol) 128 (omega arith), less, lt-ltb symbol (symbol_count m) known) refl
 
 -- one entry more
 pub entries-more : (m : Machine) (entries new : List ℕ) (entry count : ℕ) → length entries ≡ count

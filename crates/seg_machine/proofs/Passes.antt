@@ -1,5 +1,5 @@
 -- What is found once of the places that no scan passes.
-use Rattle.std.proofs.Common.{◌≡◌, ◌≢◌, ℕ, suc, ◌+◌, ◌*◌, ◌<◌, ◌≤◌, ◌^◌, ◌%◌, ◌/◌, true, List, [], ◌∷◌, ◌++◌, Contains, length, slice_index, bit_and, bit_or, refl, sym, ap, ◌∙◌, subst, inl, inr, arith, eq-eqb}
+use Rattle.std.proofs.Common.{◌≡◌, ◌≢◌, ℕ, suc, ◌+◌, ◌*◌, ◌<◌, ◌≤◌, ◌^◌, ◌%◌, ◌/◌, List, [], ◌∷◌, ◌++◌, Contains, length, slice_index, bit_and, bit_or, refl, sym, ap, ◌∙◌, subst, inl, inr, arith, eq-eqb}
 use native.Mathlib.Nat.{suc-mul}
 use Rattle.std.specs.Prelude.{◌↔◌, ◌⊎◌, IfSome, IsTrue, Option, Some, None, slice_get, slice_index_or, nat_eq}
 use Rattle.std.specs.Int.{bit_at, w128}
@@ -270,9 +270,6 @@ passes-found m masks count known rows all is few = (
   },
   λ many. absurd (omega (arith, many, few)),
 )
-
-pub no-passes : (m : Machine) (known : ℕ) → 128 < symbol_count m → ArePasses m (record { masks = []; symbols = known })
-no-passes m known many = (λ few. absurd (omega (arith, many, few)), λ _. refl)
 
 -- ---- a mask that is read
 

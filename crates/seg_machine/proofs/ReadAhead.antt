@@ -1,5 +1,5 @@
 -- The scan of a text that has read its next symbol.
-use Rattle.std.proofs.Common.{◌≡◌, ◌≢◌, ℕ, suc, ◌+◌, ◌<◌, ◌≤◌, Option, Some, None, List, [], ◌∷◌, length, replicate, IsSome, unwrap_or, refl, sym, ap, ◌∙◌, subst, arith}
+use Rattle.std.proofs.Common.{◌≡◌, ◌≢◌, ℕ, ◌+◌, ◌<◌, ◌≤◌, Option, Some, None, List, [], ◌∷◌, length, replicate, IsSome, unwrap_or, refl, sym, ap, ◌∙◌, subst}
 use Rattle.std.specs.Option.{option_map, option_map_or, option_or}
 use Rattle.seg_text.specs.declared.boundary.Boundary.{Boundary}
 use Rattle.seg_text.specs.Boundaries.{boundary_in}
@@ -104,12 +104,3 @@ read-turn m text state symbol after kept picked stood to next place entry kept-a
   ahead = ahead;
   here = p;
 }
-
-pub read-smaller : (m : Machine) (state symbol : ℕ) (after : Text) (to : Option ℕ) (next then : ℕ) (rest : Text)
-    → to ≡ step m state symbol → to ≡ Some next → next < length m.states → IsSymbolAhead m after then rest
-    → length (come m next then rest) < length (come m state symbol after)
-read-smaller m state symbol after to next then rest value leads bound ahead =
-    let later : length (come m next then rest) ≡ length (future m next after) = ap length (sym (ahead.begins next bound)) in
-    let now : length (come m state symbol after) ≡ suc (length (future m next after)) =
-    ap (λ (found : Option ℕ). length (option_map_or {T = ℕ} {U = List ℕ} (λ next. next ∷ future m next after) found [])) (sym value ∙ leads) in
-    omega (arith, later, now)

@@ -1,6 +1,8 @@
 -- What the rows of a machine say: for each state what it does by each ASCII character, and by each symbol.
-use Rattle.std.specs.Prelude.{◌≡◌, ℕ, ◌+◌, ◌-◌, ◌*◌, ◌/◌, ◌%◌, ◌<◌, nat_lt, if◌then◌else◌, Option, Some, None, List, length, slice_index, unwrap_or}
+use Rattle.std.specs.Prelude.{◌≡◌, ℕ, ◌+◌, ◌-◌, ◌*◌, ◌/◌, ◌%◌, ◌<◌, ◌≤◌, nat_lt, if◌then◌else◌, Bool, IsTrue, Option, Some, None, List, length, slice_index, unwrap_or}
 use Rattle.std.specs.Option.{option_map_or}
+use Rattle.seg_data.specs.declared.provider.ComplexScript.{ComplexScript}
+use Rattle.seg_data.specs.declared.provider.ComplexScript.TheVariants.{None as NoScript}
 use Rattle.seg_machine.specs.Machine.{Machine, step, state_at, symbol_and_script, symbol_count}
 use Rattle.seg_machine.specs.declared.provider.Acceptance.{Acceptance}
 use Rattle.seg_machine.specs.declared.provider.Acceptance.TheVariants.{Continue, Accept, Conditional}
@@ -60,19 +62,32 @@ pub record AreStatuses (m : Machine) (statuses : List ℕ) : Type 0 where
   pub size : length statuses ≡ length m.states
   pub stand : (state : ℕ) → state < length statuses → slice_index statuses state ≡ status_of m state
 
--- the symbols of the first code points, each at its code point
-abbrev pub AreSymbols : Machine → List ℕ → Type 0
-AreSymbols m symbols = (code_point : ℕ) → code_point < length symbols → slice_index symbols code_point ≡ (symbol_and_script m code_point).0
+-- a symbol, and 128 more where it comes with a script
+abbrev pub marked : ℕ × ComplexScript → ℕ
+marked (symbol, NoScript) = symbol
+marked (symbol, script) = symbol + 128
 
--- what the rows of a machine are: its entries, the statuses of its states, the symbols of the first code points once more, and its certain places
+-- the symbols of the first code points, each at its code point, marked where it has a script: of a machine with at most 128 symbols
+pub record AreSymbols (m : Machine) (symbols : List ℕ) : Type 0 where
+  pub few : 0 < length symbols → symbol_count m ≤ 128
+  pub stand : (code_point : ℕ) → code_point < length symbols → slice_index symbols code_point ≡ marked (symbol_and_script m code_point)
+
+-- no ASCII character has a script
+abbrev pub IsPlain : Machine → Type 0
+IsPlain m = (code_point : ℕ) → code_point < 128 → (symbol_and_script m code_point).1 ≡ NoScript
+
+-- what the rows of a machine are: its entries, the statuses of its states, the symbols of the first code points once more, whether ASCII has no
+-- scripts, and its certain places
 pub record RowData : Type 0 where
   pub entries : List ℕ
   pub statuses : List ℕ
   pub symbols : List ℕ
+  pub is_plain : Bool
   pub passes : PassData
 
 pub record IsRowData (m : Machine) (rows : RowData) : Type 0 where
   pub entries : AreRows m rows.entries
   pub statuses : AreStatuses m rows.statuses
   pub symbols : AreSymbols m rows.symbols
+  pub plain : IsTrue rows.is_plain → IsPlain m
   pub passes : ArePasses m rows.passes

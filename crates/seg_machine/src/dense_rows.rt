@@ -1,13 +1,14 @@
 //! Dense rows of a machine's steps.
-ghost use Rattle.std.specs.Prelude.{◌≡◌, ◌<◌, ◌*◌, IfOk, length};
-ghost use Rattle.seg_machine.specs.Machine.{state_at, symbol_count};
+ghost use Rattle.std.specs.Prelude.{◌≡◌, ◌<◌, ◌≤◌, ◌*◌, IfOk, IsTrue, length};
+ghost use Rattle.seg_machine.specs.Machine.{state_at, symbol_and_script, symbol_count};
 ghost use Rattle.seg_machine.specs.Pick.{acceptance_status};
 ghost use Rattle.seg_machine.specs.Tailored.{machine_of};
-ghost use Rattle.seg_machine.specs.DenseRows.{AreRows, AreStatuses, AreSymbols, IsRowData, end_status, index_entry, row_entry, status_of};
+ghost use Rattle.seg_machine.specs.DenseRows.{AreRows, AreStatuses, AreSymbols, IsPlain, IsRowData, end_status, index_entry, marked, row_entry, status_of};
 
 use crate::certain::Passes;
 use crate::provider::{Acceptance, SegmenterStateMachine, State, Symbol};
 use crate::tailored_machine::TailoredMachineBorrowed;
+use seg_data::provider::ComplexScript;
 use std::alloc::{AllocError, Global};
 use std::marker::Model;
 
@@ -20,14 +21,22 @@ pub const ROW_LEN: usize = 256;
 // How many code points have their symbols once more.
 const SYMBOL_COUNT: u32 = 0x10000;
 
+// How many ASCII characters there are.
+const ASCII_COUNT: u32 = 0x80;
+
+/// What is added to the symbol of a code point that has a script, where both are kept in a byte.
+pub const HAS_SCRIPT: u8 = 128;
+
 /// For each state of a machine a row of what it does by each ASCII character, and by each symbol.
 #[derive(Drop)]
 pub struct DenseRows {
     entries: Vec<u16>,
     // The status that each state accepts with.
     statuses: Vec<u8>,
-    // The symbols of the code points below U+10000, once more: one read each.
+    // The symbols of the code points below U+10000, once more, and which of these have scripts: one read each.
     symbols: Vec<u8>,
+    // Whether no ASCII character has a script.
+    is_plain: bool,
     // Between which symbols no scan passes.
     passes: Passes,
 }
@@ -37,7 +46,7 @@ impl Model for DenseRows {
 
     ghost Value = { RowData };
 
-    ghost view = { λ s. record { entries = s.entries.items; statuses = s.statuses.items; symbols = s.symbols.items; passes = s.passes } };
+    ghost view = { λ s. record { entries = s.entries.items; statuses = s.statuses.items; symbols = s.symbols.items; is_plain = s.is_plain; passes = s.passes } };
 }
 
 impl DenseRows {
@@ -51,11 +60,13 @@ impl DenseRows {
         let entries = entries_of(alloc, machine)?;
         let statuses = statuses_of(alloc, machine)?;
         let symbols = symbols_of(alloc, machine)?;
+        let is_plain = is_ascii_plain(machine);
         let passes = Passes::try_from_machine(alloc, machine)?;
         Ok(DenseRows {
             entries,
             statuses,
             symbols,
+            is_plain,
             passes,
         })
     }
@@ -76,12 +87,19 @@ impl DenseRows {
         self.statuses.as_slice()
     }
 
-    /// The symbols of the first code points.
+    /// The symbols of the first code points, with `HAS_SCRIPT` more for those that have scripts.
     #[inline(always)]
     pub fn symbols(&self) -> &[u8]
         ensures { result.now ≡ self.now.symbols }
     {
         self.symbols.as_slice()
+    }
+
+    /// Whether no ASCII character has a script.
+    pub fn is_plain(&self) -> bool
+        ensures { result ≡ self.now.is_plain }
+    {
+        self.is_plain
     }
 
     /// Between which symbols no scan passes.
@@ -117,15 +135,42 @@ fn statuses_of(alloc: Global, machine: &TailoredMachineBorrowed<'_>) -> Result<V
     Ok(statuses)
 }
 
-// The symbols of the code points below U+10000.
+// The symbols of the code points below U+10000, marked where these have scripts. None of a machine with more symbols than rows have entries for.
 fn symbols_of(alloc: Global, machine: &TailoredMachineBorrowed<'_>) -> Result<Vec<u8>, AllocError>
     ensures { IfOk result (λ symbols. AreSymbols (machine_of machine.now) symbols.items) }
 {
     let mut symbols = Vec::new(alloc);
+    if symbols_in(machine) > HAS_SCRIPT as usize {
+        return Ok(symbols);
+    }
     for code_point in 0..SYMBOL_COUNT {
-        symbols.push(machine.symbol(code_point))?;
+        symbols.push(marked_symbol(machine, code_point))?;
     }
     Ok(symbols)
+}
+
+// The symbol of a code point, marked where it has a script.
+fn marked_symbol(machine: &TailoredMachineBorrowed<'_>, code_point: u32) -> u8
+    requires { symbol_count (machine_of machine.now) ≤ 128 }
+    ensures { result ≡ marked (symbol_and_script (machine_of machine.now) code_point) }
+{
+    let symbol = machine.symbol(code_point);
+    match machine.script(code_point) {
+        ComplexScript::None => symbol,
+        _ => symbol + HAS_SCRIPT,
+    }
+}
+
+// Whether no ASCII character has a script.
+fn is_ascii_plain(machine: &TailoredMachineBorrowed<'_>) -> bool
+    ensures { IsTrue result → IsPlain (machine_of machine.now) }
+{
+    for code_point in 0..ASCII_COUNT {
+        if machine.script(code_point) != ComplexScript::None {
+            return false;
+        }
+    }
+    true
 }
 
 // The entry of an index.

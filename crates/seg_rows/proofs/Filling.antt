@@ -51,8 +51,8 @@ whole-more m first last next given status whole some segment =
     whole ∙ ap (λ (later : List Boundary). given ++ later) gives ∙ sym (append_assoc given (boundary (start_of next) status ∷ []) (behind m next))
 
 -- the next item was read, and the segment goes on
-pub giving-goes : (m : Machine) (first rest : Text) (given : List Boundary) (last : Text) (row : ℕ) (after : Text) (entry : ℕ) (next : Text)
-    → IsChecked m → IsGiving m first rest given last row after → IsNextEntry m after (row / 256) entry next → entry ≢ slow → entry % 2 ≡ 0
+pub giving-goes : {passes : ℕ → Bool} (m : Machine) (first rest : Text) (given : List Boundary) (last : Text) (row : ℕ) (after : Text) (entry : ℕ) (next : Text)
+    → IsChecked m → IsGiving m first rest given last row after → IsNextEntry m passes after (row / 256) entry next → entry ≢ slow → entry % 2 ≡ 0
     → IsGiving m first rest given last (entry / 256 * 256) next
 giving-goes m first rest given last row after entry next checked g read fast even = record {
   k = g.k;
@@ -64,8 +64,8 @@ giving-goes m first rest given last row after entry next checked g read fast eve
 }
 
 -- .. or it ends, and another begins
-pub giving-ends : (m : Machine) (first rest : Text) (given : List Boundary) (last : Text) (row : ℕ) (after : Text) (entry : ℕ) (next : Text)
-    → IsChecked m → IsRising rest.items rest.end → IsGiving m first rest given last row after → IsNextEntry m after (row / 256) entry next
+pub giving-ends : {passes : ℕ → Bool} (m : Machine) (first rest : Text) (given : List Boundary) (last : Text) (row : ℕ) (after : Text) (entry : ℕ) (next : Text)
+    → IsChecked m → IsRising rest.items rest.end → IsGiving m first rest given last row after → IsNextEntry m passes after (row / 256) entry next
     → entry ≢ slow → entry % 2 ≡ 1
     → IsGiving m first rest (given ++ boundary (start_of after) (status_of m (row / 256)) ∷ []) after (entry / 256 * 256) next
 giving-ends m first rest given last row after entry next checked rises g read fast odd =
@@ -246,9 +246,9 @@ pub record Reads (m : Machine) (first rest : Text) (from : ℕ) (old : List ℕ)
   pub filling : IsFilling m first rest from old room count places row after
   pub more : IsMore given filling.given b bit
 
-pub filling-read : (m : Machine) (first rest : Text) (from : ℕ) (old : List ℕ) (room count : ℕ) (places : List ℕ) (row : ℕ) (after : Text) (entry : ℕ) (next : Text) (place : ℕ)
+pub filling-read : {passes : ℕ → Bool} (m : Machine) (first rest : Text) (from : ℕ) (old : List ℕ) (room count : ℕ) (places : List ℕ) (row : ℕ) (after : Text) (entry : ℕ) (next : Text) (place : ℕ)
     → IsChecked m → IsRising rest.items rest.end → (f : IsFilling m first rest from old room count places row after) → count < room → room ≤ length old
-    → IsNextEntry m after (row / 256) entry next → entry ≢ slow → place ≡ start_of after
+    → IsNextEntry m passes after (row / 256) entry next → entry ≢ slow → place ≡ start_of after
     → Reads m first rest from old room (count + entry % 2) (set places count place) (entry / 256 * 256) next f.given (boundary (start_of after) (status_of m (row / 256))) (entry % 2)
 filling-read m first rest from old room count places row after entry next place checked rises f some fits read fast here =
     let inside : count < length places = omega (arith, some, fits, f.written.long) in

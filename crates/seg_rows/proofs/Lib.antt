@@ -1,3 +1,4 @@
 pub mod Underway
 pub mod Reading
 pub mod Filling
+pub mod Passing

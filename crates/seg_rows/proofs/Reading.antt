@@ -1,19 +1,20 @@
 -- What is read by rows, item by item, and by a scan.
-use Rattle.std.proofs.Common.{◌≡◌, ◌≢◌, ℕ, ◌+◌, ◌*◌, ◌/◌, ◌<◌, ◌≤◌, Option, Some, None, List, [], ◌∷◌, length, slice_index, ◌==◌, true, refl, ap, subst, arith, sym, ◌∙◌}
+use Rattle.std.proofs.Common.{◌≡◌, ◌≢◌, ℕ, ◌+◌, ◌*◌, ◌/◌, ◌<◌, Option, Some, None, List, [], ◌∷◌, length, slice_index, ◌==◌, Bool, true, false, inl, inr, refl, ap, subst, arith, sym, ◌∙◌}
 use Rattle.seg_text.specs.declared.boundary.Boundary.{Boundary}
 use Rattle.seg_text.specs.Items.{Item, Text, IsRising, code_points, rest_after, start_of}
 use Rattle.seg_machine.specs.Machine.{Machine, state_at, step, symbol_and_script, symbols_of}
 use Rattle.seg_machine.specs.MachineFaults.{IsChecked}
 use Rattle.seg_machine.specs.Pick.{acceptance_status, pick}
 use Rattle.seg_machine.specs.Scan.{IsSymbolAhead}
+use Rattle.std.proofs.lemmas.Bool.{cases_lt}
 use Rattle.std.proofs.lemmas.Bool.Decides.{nat_tests}
 use Rattle.std.specs.Prelude.{IfSome}
 use Rattle.std.specs.Option.{option_map_or}
 use Rattle.seg_machine.proofs.Scanned.{begins-end, begins-next, none-less, one-less}
-use Rattle.seg_machine.specs.DenseRows.{AreRows, end_status, slow}
-use Rattle.seg_rows.specs.Underway.{IsNextEntry, IsStuck}
+use Rattle.seg_machine.specs.DenseRows.{AreRows, end_status, row_entry, slow}
+use Rattle.seg_rows.specs.Underway.{IsEntryOf, IsNextEntry, IsStuck}
 use Rattle.seg_rows.proofs.Underway.{stops-at}
-use Rattle.seg_machine.proofs.Entries.{entry-ascii, entry-wide}
+use Rattle.seg_machine.proofs.Entries.{entry-ascii}
 
 pub item-ahead : (m : Machine) (old new : Text) (item : Item) (symbol : ℕ) → IsChecked m → old.items ≡ item ∷ new.items → new.end ≡ old.end
     → symbol ≡ (symbol_and_script m item.1).0 → IsSymbolAhead m old symbol new
@@ -33,60 +34,74 @@ end-ahead m old new checked none left end = record {
 fewer : (old new : Text) (item : Item) → old.items ≡ item ∷ new.items → length new.items < length old.items
 fewer old new item is = rw is (omega arith)
 
-pub next-ascii : (m : Machine) (entries : List ℕ) (row state : ℕ) (old new : Text) (item : Item) → IsChecked m → AreRows m entries
-    → row ≡ state * 256 → state < length m.states → item.1 < 128 → old.items ≡ item ∷ new.items → new.end ≡ old.end
-    → IsNextEntry m old (row / 256) (slice_index entries (row + item.1)) new
-next-ascii m entries row state old new item checked rows is within below read end =
+pub some-items : (items later : List Item) (item : Item) → items ≡ item ∷ later → items ≢ []
+some-items items later item is none = cc
+
+pub next-ascii : (m : Machine) (passes : ℕ → Bool) (entries : List ℕ) (row state : ℕ) (old new : Text) (item : Item) → IsChecked m → AreRows m entries
+    → row ≡ state * 256 → state < length m.states → item.1 < 128 → old.items ≡ item ∷ new.items → new.end ≡ old.end → passes item.1 ≡ true
+    → IsNextEntry m passes old (row / 256) (slice_index entries (row + item.1)) new
+next-ascii m passes entries row state old new item checked rows is within below read end pass =
     let entry = entry-ascii m entries row state item.1 rows is within below in
     record {
       symbol = (symbol_and_script m item.1).0;
       ahead = item-ahead m old new item (symbol_and_script m item.1).0 checked read end refl;
       says = λ fast. entry;
-      known = λ some few. entry;
+      known = λ other items first passed few. entry;
+      read = λ fast. (item, read, pass);
       less = λ fast. fewer old new item read;
     }
 
-pub next-wide : (m : Machine) (entries : List ℕ) (row state : ℕ) (old new : Text) (item : Item) (symbol : ℕ) → IsChecked m → AreRows m entries
-    → row ≡ state * 256 → state < length m.states → symbol < 128 → old.items ≡ item ∷ new.items → new.end ≡ old.end
-    → symbol ≡ (symbol_and_script m item.1).0
-    → IsNextEntry m old (row / 256) (slice_index entries (row + 128 + symbol)) new
-next-wide m entries row state old new item symbol checked rows is within below read end same =
-    let ahead = item-ahead m old new item symbol checked read end same in
-    let entry = entry-wide m entries row state symbol rows is within below ahead.below in
-    record {
-      symbol = symbol;
-      ahead = ahead;
-      says = λ fast. entry;
-      known = λ some few. entry;
-      less = λ fast. fewer old new item read;
-    }
+says-of : (m : Machine) (state code_point entry : ℕ) → IsEntryOf m state code_point entry → entry ≢ slow → entry ≡ row_entry m state (symbol_and_script m code_point).0
+says-of m state code_point entry is fast =
+    elim (cases_lt (symbol_and_script m code_point).0 128) [ inl below ↦ is.few below | inr past ↦ absurd (fast (is.many past)) ]
 
-pub next-slow : (m : Machine) (row : ℕ) (old new : Text) (item : Item) (symbol : ℕ) → IsChecked m → old.items ≡ item ∷ new.items → new.end ≡ old.end
-    → symbol ≡ (symbol_and_script m item.1).0 → 128 ≤ symbol → IsNextEntry m old (row / 256) slow new
-next-slow m row old new item symbol checked read end same many = record {
-  symbol = symbol;
-  ahead = item-ahead m old new item symbol checked read end same;
-  says = λ fast. absurd (fast refl);
-  known = λ some few. absurd (omega (arith, few, many));
-  less = λ fast. absurd (fast refl);
+pub next-wide : (m : Machine) (passes : ℕ → Bool) (state entry : ℕ) (old new : Text) (item : Item) → IsChecked m → IsEntryOf m state item.1 entry
+    → old.items ≡ item ∷ new.items → new.end ≡ old.end → passes item.1 ≡ true → IsNextEntry m passes old state entry new
+next-wide m passes state entry old new item checked is read end pass = record {
+  symbol = (symbol_and_script m item.1).0;
+  ahead = item-ahead m old new item (symbol_and_script m item.1).0 checked read end refl;
+  says = says-of m state item.1 entry is;
+  known = λ other items first passed few. is.few few;
+  read = λ fast. (item, read, pass);
+  less = λ fast. fewer old new item read;
 }
 
-pub next-end : (m : Machine) (row : ℕ) (old new : Text) → IsChecked m → old.items ≡ [] → new.items ≡ [] → new.end ≡ old.end
-    → IsNextEntry m old (row / 256) slow new
-next-end m row old new checked none left end = record {
+-- its code point doesn't pass
+pub next-failing : (m : Machine) (passes : ℕ → Bool) (state : ℕ) (old new : Text) (item : Item) → IsChecked m
+    → old.items ≡ item ∷ new.items → new.end ≡ old.end → passes item.1 ≡ false → IsNextEntry m passes old state slow new
+next-failing m passes state old new item checked read end fails = record {
+  symbol = (symbol_and_script m item.1).0;
+  ahead = item-ahead m old new item (symbol_and_script m item.1).0 checked read end refl;
+  says = λ fast. absurd (fast refl);
+  known = λ other items first passed few. absurd (differ (sym fails ∙ ap passes (same other items (sym read ∙ first)) ∙ passed));
+  read = λ fast. absurd (fast refl);
+  less = λ fast. absurd (fast refl);
+}
+  where
+    same : (other : Item) (items : List Item) → item ∷ new.items ≡ other ∷ items → item.1 ≡ other.1
+    same other items is = ap (λ (all : List Item). first-of all) is
+      where
+        first-of : List Item → ℕ
+        first-of [] = 0
+        first-of (one ∷ more) = one.1
+
+    differ : false ≡ true → ⊥
+    differ is = cc
+
+pub next-end : (m : Machine) (passes : ℕ → Bool) (state : ℕ) (old new : Text) → IsChecked m → old.items ≡ [] → new.items ≡ [] → new.end ≡ old.end
+    → IsNextEntry m passes old state slow new
+next-end m passes state old new checked none left end = record {
   symbol = 0;
   ahead = end-ahead m old new checked none left end;
   says = λ fast. absurd (fast refl);
-  known = λ some few. absurd (some none);
+  known = λ item items some passed few. absurd (some-items old.items items item some none);
+  read = λ fast. absurd (fast refl);
   less = λ fast. absurd (fast refl);
 }
 
 -- an entry that comes next in a text comes next in one that equals it
-pub from-same : (m : Machine) (old first : Text) (state entry : ℕ) (new : Text) → first ≡ old → IsNextEntry m first state entry new → IsNextEntry m old state entry new
-from-same m old first state entry new same next = subst (λ (text : Text). IsNextEntry m text state entry new) same next
-
-pub some-items : (items later : List Item) (item : Item) → items ≡ item ∷ later → items ≢ []
-some-items items later item is none = cc
+pub from-same : (m : Machine) (passes : ℕ → Bool) (old first : Text) (state entry : ℕ) (new : Text) → first ≡ old → IsNextEntry m passes first state entry new → IsNextEntry m passes old state entry new
+from-same m passes old first state entry new same next = subst (λ (text : Text). IsNextEntry m passes text state entry new) same next
 
 nothing-in : (items : List Item) → (length items == 0) ≡ true → items ≡ []
 nothing-in [] none = refl

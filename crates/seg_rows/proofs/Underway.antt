@@ -1,5 +1,5 @@
 -- A segment that is read by rows, entry by entry.
-use Rattle.std.proofs.Common.{◌≡◌, ◌≢◌, ℕ, zero, suc, ◌*◌, ◌/◌, ◌%◌, ◌<◌, Option, Some, None, List, [], ◌∷◌, drop, length, slice_index, replicate, IsSome, refl, sym, ap, ◌∙◌, subst, arith}
+use Rattle.std.proofs.Common.{◌≡◌, ◌≢◌, ℕ, zero, suc, ◌*◌, ◌/◌, ◌%◌, ◌<◌, Bool, Option, Some, None, List, [], ◌∷◌, drop, length, slice_index, replicate, IsSome, refl, sym, ap, ◌∙◌, subst, arith}
 use Rattle.seg_text.specs.declared.boundary.Boundary.{Boundary}
 use Rattle.seg_text.specs.Boundaries.{boundary}
 use Rattle.seg_text.specs.Items.{Item, Text, IsRising, code_points, place_of, rest_after, start_of}
@@ -90,7 +90,7 @@ told : (m : Machine) (at state symbol entry : ℕ) → at ≡ state → entry �
 told m at state symbol entry here says = subst (λ (s : ℕ). entry ≡ row_entry m s symbol) here says
 
 -- the next symbol is read, and the segment goes on
-pub goes : (m : Machine) (text left after : Text) (row entry : ℕ) → IsChecked m → IsUnderway m text row left → IsNextEntry m left (row / 256) entry after
+pub goes : {passes : ℕ → Bool} (m : Machine) (text left after : Text) (row entry : ℕ) → IsChecked m → IsUnderway m text row left → IsNextEntry m passes left (row / 256) entry after
     → entry ≢ slow → entry % 2 ≡ 0 → IsUnderway m text (entry / 256 * 256) after
 goes m text left after row entry checked under next fast even =
     let here : row / 256 ≡ under.state = omega (arith, under.row_is) in
@@ -135,8 +135,8 @@ pub record EndsAt (m : Machine) (text left : Text) (status row : ℕ) (after : T
   pub segment : IsSegment m text left status
   pub under : IsUnderway m left row after
 
-pub ends-at : (m : Machine) (text left after : Text) (row entry : ℕ) → IsChecked m → IsRising text.items text.end → IsUnderway m text row left
-    → IsNextEntry m left (row / 256) entry after → entry ≢ slow → entry % 2 ≡ 1 → EndsAt m text left (status_of m (row / 256)) (entry / 256 * 256) after
+pub ends-at : {passes : ℕ → Bool} (m : Machine) (text left after : Text) (row entry : ℕ) → IsChecked m → IsRising text.items text.end → IsUnderway m text row left
+    → IsNextEntry m passes left (row / 256) entry after → entry ≢ slow → entry % 2 ≡ 1 → EndsAt m text left (status_of m (row / 256)) (entry / 256 * 256) after
 ends-at m text left after row entry checked rises under next fast odd =
     let here : row / 256 ≡ under.state = omega (arith, under.row_is) in
     let end = ends-before m under.state next.symbol entry checked next.ahead.below (told m (row / 256) under.state next.symbol entry here (next.says fast)) fast odd in

@@ -1,10 +1,10 @@
 -- A segment that is read, and what is known of it.
-use Rattle.std.specs.Prelude.{◌≡◌, ◌≢◌, ℕ, ◌+◌, ◌*◌, ◌<◌, Option, Some, List, [], ◌++◌, drop, length, take}
+use Rattle.std.specs.Prelude.{◌≡◌, ◌≢◌, ℕ, ◌+◌, ◌*◌, ◌<◌, ◌≤◌, Bool, true, Option, Some, List, [], ◌∷◌, ◌++◌, drop, length, take, MatchOption}
 use Rattle.seg_text.specs.declared.boundary.Boundary.{Boundary}
 use Rattle.seg_text.specs.Boundaries.{boundary, boundaries_in, later_boundaries, offsets}
 use Rattle.seg_text.specs.Filled.{last_status}
-use Rattle.seg_text.specs.Items.{Text, start_of, rest_after}
-use Rattle.seg_machine.specs.Machine.{Machine, state_at}
+use Rattle.seg_text.specs.Items.{Item, Text, prefix_length, start_of, rest_after}
+use Rattle.seg_machine.specs.Machine.{Machine, state_at, symbol_and_script}
 use Rattle.seg_machine.specs.Pick.{acceptance_status, machine_stretch}
 use Rattle.seg_machine.specs.Scan.{IsPicked, IsSymbolAhead, Scanned}
 use Rattle.seg_machine.specs.DenseRows.{row_entry, slow}
@@ -29,13 +29,19 @@ pub record IsUnderway (m : Machine) (text : Text) (row : ℕ) (left : Text) : Ty
 abbrev pub IsAhead : Machine → Text → ℕ → Text → Type 0
 IsAhead m rest row after = rest.items ≢ [] → IsUnderway m rest row after
 
--- what a state's row says of the next symbol of a text, and what is left after it. It says nothing at the end, and it may say nothing of
--- a symbol from 128 on
-pub record IsNextEntry (m : Machine) (text : Text) (state entry : ℕ) (after : Text) : Type 0 where
+-- what a state's row says of a code point: what the state does by its symbol, or nothing of a symbol from 128 on
+pub record IsEntryOf (m : Machine) (state code_point entry : ℕ) : Type 0 where
+  pub few : (symbol_and_script m code_point).0 < 128 → entry ≡ row_entry m state (symbol_and_script m code_point).0
+  pub many : 128 ≤ (symbol_and_script m code_point).0 → entry ≡ slow
+
+-- what a state's row says of the next symbol of a text, if its code point passes a test, and what is left after it. It says nothing at the end, and
+-- it may say nothing of a symbol from 128 on
+pub record IsNextEntry (m : Machine) (passes : ℕ → Bool) (text : Text) (state entry : ℕ) (after : Text) : Type 0 where
   pub symbol : ℕ
   pub ahead : IsSymbolAhead m text symbol after
   pub says : entry ≢ slow → entry ≡ row_entry m state symbol
-  pub known : text.items ≢ [] → symbol < 128 → entry ≡ row_entry m state symbol
+  pub known : (item : Item) (items : List Item) → text.items ≡ item ∷ items → passes item.1 ≡ true → symbol < 128 → entry ≡ row_entry m state symbol
+  pub read : entry ≢ slow → (item : Item) × (text.items ≡ item ∷ after.items) × (passes item.1 ≡ true)
   pub less : entry ≢ slow → length after.items < length text.items
 
 -- the scan of a text has come to a place, in the state of this row
@@ -45,6 +51,20 @@ IsStuck m text row place = (left : Text) × IsUnderway m text row left × (place
 -- the boundaries of a text behind its start
 abbrev pub behind : Machine → Text → List Boundary
 behind m text = boundaries_in (later_boundaries (machine_stretch m)) text
+
+-- of a text this is left, once some of its items are read
+abbrev pub IsLater : Text → Text → Type 0
+IsLater text left = (count : ℕ) × (left ≡ rest_after count text)
+
+-- .. whose code points all pass a test
+abbrev pub HasPassed : (ℕ → Bool) → Text → Text → Type 0
+HasPassed passes text left = (count : ℕ) × (count ≤ prefix_length passes text) × (left ≡ rest_after count text)
+
+-- the next boundary behind a text's start was given, and this is left behind it; or none, at the end
+abbrev pub GivesBehind : Machine → Text → Option Boundary → Text → Type 0
+GivesBehind m text given left =
+    MatchOption given ((text.items ≡ []) × (left ≡ text))
+    (λ found. (behind m text ≡ found ∷ behind m left) × (found.offset ≡ start_of left) × IsLater text left)
 
 -- of a text's boundaries behind its start some were given, and this is left. Before, `from` were, and the last of all had the status
 -- `before`. Their places stand in a buffer, behind those `from`, and what stands behind them there is as it was

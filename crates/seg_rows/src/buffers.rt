@@ -4,23 +4,25 @@
 //! An entry of a row is the state that comes next and one bit, whether a segment ends before the character. Where the state goes on,
 //! it is the state that comes next; where it accepts and stops, it is the state that START goes on to, with the bit. Other entries say
 //! nothing (`SLOW`): there the machine's scan from the last boundary on decides.
-ghost use Rattle.std.specs.Prelude.{◌≡◌, ◌≢◌, if◌then◌else◌, nat_lt, ◌+◌, ◌-◌, ◌*◌, ◌/◌, ◌<◌, ◌≤◌, ◌++◌, ℕ, [], length, min, slice_index, take, drop, Some, IfSome};
+ghost use Rattle.std.specs.Prelude.{◌≡◌, ◌≢◌, if◌then◌else◌, nat_lt, ◌+◌, ◌-◌, ◌*◌, ◌/◌, ◌<◌, ◌≤◌, ◌++◌, ℕ, [], length, min, slice_index, take, drop, Bool, true, false, List, ◌∷◌, Some, IfSome, IsTrue};
 ghost use Rattle.seg_text.specs.declared.boundary.Boundary.{Boundary as AnyBoundary};
-ghost use Rattle.seg_text.specs.Filled.{statuses};
-ghost use Rattle.seg_text.specs.Items.{code_points, start_of, rest_after};
-ghost use Rattle.seg_machine.specs.DenseRows.{IsRowData, slow};
-ghost use Rattle.seg_machine.specs.Machine.{symbol_and_script, symbols_of};
+ghost use Rattle.seg_text.specs.Filled.{WritesSome, statuses};
+ghost use Rattle.seg_text.specs.Items.{Item, code_points, start_of, rest_after};
+ghost use Rattle.seg_data.specs.declared.provider.ComplexScript.TheVariants.{None as NoScript};
+ghost use Rattle.seg_machine.specs.DenseRows.{IsPlain, IsRowData, slow};
+ghost use Rattle.seg_machine.specs.Machine.{Machine, symbol_and_script, symbols_of};
 ghost use Rattle.seg_machine.specs.Pick.{pick};
 ghost use Rattle.seg_machine.specs.Scan.{IsSegment, IsSymbolAhead};
 ghost use Rattle.seg_machine.specs.Tailored.{machine_of};
-ghost use Rattle.seg_rows.specs.Underway.{IsAhead, IsGiven, IsNextEntry, IsStuck};
+ghost use Rattle.seg_rows.specs.Underway.{HasPassed, IsAhead, IsEntryOf, IsGiven, IsNextEntry, IsStuck, behind};
 ghost use Rattle.seg_rows.specs.Given.{first_unless};
 
 use crate::rule_segmenter_v2::{next_segment, read_apart};
-use seg_machine::dense_rows::{DenseRows, SLOW, status_at_end};
+use seg_machine::dense_rows::{DenseRows, HAS_SCRIPT, SLOW, status_at_end};
 use seg_machine::provider::{SegmenterStateMachine, State, Symbol};
 use seg_machine::tailored_machine::TailoredMachineBorrowed;
 use seg_text::cursor::Cursor;
+use seg_text::prefixes::CodePointTest;
 
 // What is left of a text behind a boundary, and what is read of it: an item, if there is one.
 #[derive(Drop)]
@@ -123,6 +125,70 @@ pub(crate) fn fill_places<I: Cursor>(
     }
 }
 
+/// Writes some of the boundaries of a text behind its start, and their statuses, by a machine's dense rows: as far as code points pass a test, and
+/// up to where the rows say nothing. The cursor goes on to the last of them. Returns how many: none where the machine has no rows. Takes no memory.
+#[inline(never)]
+pub fn fill_passing<I: Cursor, T: CodePointTest>(
+    machine: &TailoredMachineBorrowed<'_>,
+    test: &T,
+    text: &mut I,
+    places: &mut [usize],
+    marks: &mut [u8],
+) -> usize
+    requires plain { (code_point : ℕ) → (symbol_and_script (machine_of machine.now) code_point).1 ≡ NoScript → T.passes test.now code_point ≡ true }
+    ensures some { WritesSome (behind (machine_of machine.now) (I.text text.old)) (behind (machine_of machine.now) (I.text text.new)) places.old places.new marks.old marks.new result }
+    ensures passed { HasPassed (T.passes test.now) (I.text text.old) (I.text text.new) }
+    ensures last { 0 < result → slice_index places.new (result - 1) ≡ start_of (I.text text.new) }
+{
+    machine.facts();
+    let Some(rows) = plain_rows(machine) else {
+        return 0;
+    };
+    if !begins_passing(test, text) {
+        return 0;
+    }
+    let room = places.len().min(marks.len());
+    let ahead = read_first(machine, text.fork());
+    let mut row = ahead.row;
+    let mut after = ahead.after;
+    let mut done = 0;
+    'items: while done < room {
+        let place = after.place();
+        let entry = passing_entry(machine, rows, test, row, &mut after);
+        if entry == SLOW {
+            break 'items;
+        }
+        if entry % 2 == 1 {
+            places[done] = place;
+            marks[done] = rows.statuses()[row / 256];
+            done += 1;
+        }
+        row = (entry / 256) as usize * 256;
+    }
+    if done > 0 {
+        text.seek(places[done - 1]);
+    }
+    done
+}
+
+// The rows of a machine where no ASCII character has a script.
+fn plain_rows<'data>(machine: &TailoredMachineBorrowed<'data>) -> Option<&'data DenseRows>
+    ensures { IfSome result (λ rows. IsRowData (machine_of machine.now) rows.now × IsPlain (machine_of machine.now)) }
+{
+    let rows = machine.rows()?;
+    if rows.is_plain() { Some(rows) } else { None }
+}
+
+// Whether the first code point of a text passes a test, if there is one.
+fn begins_passing<I: Cursor, T: CodePointTest>(test: &T, text: &I) -> bool
+    ensures { IsTrue result → (item : Item) × (later : List Item) × ((I.text text.now).items ≡ item ∷ later) × (T.passes test.now item.1 ≡ true) }
+{
+    match text.fork().next_item() {
+        Some((_, code_point)) => test.accepts(code_point),
+        None => false,
+    }
+}
+
 // Goes on to write boundaries as `fill_places` does, and their statuses into another buffer.
 #[inline(never)]
 pub(crate) fn fill_both<I: Cursor>(
@@ -211,39 +277,65 @@ fn next_entry<I: Cursor>(
 ) -> u16
     requires rows { IsRowData (machine_of machine.now) rows.now }
     requires row { (state : ℕ) × (row ≡ state * 256) × (state < length (machine_of machine.now).states) }
-    ensures { IsNextEntry (machine_of machine.now) (I.text after.old) (row / 256) result (I.text after.new) }
+    ensures { IsNextEntry (machine_of machine.now) (λ _. true) (I.text after.old) (row / 256) result (I.text after.new) }
 {
     machine.facts();
     if let Some((_, ascii)) = after.next_ascii() {
         return rows.entries()[row + ascii as usize];
     }
-    wide_entry(machine, rows, row, after)
+    match after.next_item() {
+        Some((_, code_point)) => wide_entry(machine, rows, row, code_point),
+        None => SLOW,
+    }
 }
 
-// What the row of a state says of the next item, which is read without a test for ASCII.
+// What the row of a state says of a code point, by its symbol.
 #[inline(always)]
-fn wide_entry<I: Cursor>(
+fn wide_entry(
     machine: &TailoredMachineBorrowed<'_>,
     rows: &DenseRows,
+    row: usize,
+    code_point: u32,
+) -> u16
+    requires rows { IsRowData (machine_of machine.now) rows.now }
+    requires row { (state : ℕ) × (row ≡ state * 256) × (state < length (machine_of machine.now).states) }
+    ensures { IsEntryOf (machine_of machine.now) (row / 256) code_point result }
+{
+    machine.facts();
+    let symbol = symbol_of(machine, rows, code_point);
+    if symbol < 128 {
+        rows.entries()[row + 128 + symbol as usize]
+    } else {
+        SLOW
+    }
+}
+
+// What the row of a state says of the next item, which is read, where its code point passes a test; else nothing.
+#[inline(always)]
+fn passing_entry<I: Cursor, T: CodePointTest>(
+    machine: &TailoredMachineBorrowed<'_>,
+    rows: &DenseRows,
+    test: &T,
     row: usize,
     after: &mut I,
 ) -> u16
     requires rows { IsRowData (machine_of machine.now) rows.now }
     requires row { (state : ℕ) × (row ≡ state * 256) × (state < length (machine_of machine.now).states) }
-    ensures { IsNextEntry (machine_of machine.now) (I.text after.old) (row / 256) result (I.text after.new) }
+    requires ascii { (code_point : ℕ) → code_point < 128 → T.passes test.now code_point ≡ true }
+    requires plain { (code_point : ℕ) → (symbol_and_script (machine_of machine.now) code_point).1 ≡ NoScript → T.passes test.now code_point ≡ true }
+    ensures { IsNextEntry (machine_of machine.now) (T.passes test.now) (I.text after.old) (row / 256) result (I.text after.new) }
 {
     machine.facts();
-    match after.next_item() {
-        Some((_, code_point)) => {
-            let symbol = symbol_of(machine, rows, code_point);
-            if symbol < 128 {
-                rows.entries()[row + 128 + symbol as usize]
-            } else {
-                SLOW
-            }
-        }
-        None => SLOW,
+    if let Some((_, ascii)) = after.next_ascii() {
+        return rows.entries()[row + ascii as usize];
     }
+    let Some((_, code_point)) = after.next_item() else {
+        return SLOW;
+    };
+    if may_have_script(rows, code_point) && !test.accepts(code_point) {
+        return SLOW;
+    }
+    wide_entry(machine, rows, row, code_point)
 }
 
 // The symbol of a code point.
@@ -255,10 +347,20 @@ fn symbol_of(machine: &TailoredMachineBorrowed<'_>, rows: &DenseRows, code_point
     let symbols = rows.symbols();
     let index = code_point as usize;
     if index < symbols.len() {
-        symbols[index]
+        symbols[index] % HAS_SCRIPT
     } else {
         symbol_apart(machine, code_point)
     }
+}
+
+// Whether a code point may have a script: as the rows say, if they say anything of it.
+#[inline(always)]
+fn may_have_script(rows: &DenseRows, code_point: u32) -> bool
+    ensures { result ≡ false → (m : Machine) → IsRowData m rows.now → (symbol_and_script m code_point).1 ≡ NoScript }
+{
+    let symbols = rows.symbols();
+    let index = code_point as usize;
+    index >= symbols.len() || symbols[index] >= HAS_SCRIPT
 }
 
 // The symbol of a code point, looked up by the machine.
@@ -327,6 +429,7 @@ fn status_there<I: Cursor>(
 fn read_first<I: Cursor>(machine: &TailoredMachineBorrowed<'_>, text: I) -> Underway<I>
     ensures rest { I.text result.rest ≡ I.text text }
     ensures ahead { IsAhead (machine_of machine.now) (I.text text) result.row (I.text result.after) }
+    ensures one { I.text result.after ≡ rest_after 1 (I.text text) }
 {
     machine.facts();
     let mut after = text.fork();

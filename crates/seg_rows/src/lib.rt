@@ -4,6 +4,6 @@
 //! In specs/, Underway says what is known of a segment while it is read by rows.
 #![tactic(auto)]
 
-mod buffers;
+pub mod buffers;
 mod places;
 pub mod rule_segmenter_v2;

@@ -10,7 +10,7 @@ ghost use Rattle.seg_machine.specs.Machine.{state_at};
 ghost use Rattle.seg_machine.specs.Pick.{machine_boundaries};
 ghost use Rattle.seg_machine.specs.Tailored.{machine_of};
 ghost use Rattle.seg_machine.specs.Scan.{acceptance_at, condition_end, places_after, IsSymbolAhead, IsSegment};
-ghost use Rattle.seg_rows.specs.Underway.{IsScannedTo};
+ghost use Rattle.seg_rows.specs.Underway.{GivesBehind, IsScannedTo};
 
 use crate::buffers::{Filled, fill_both, fill_places, put_first};
 use crate::places::{EightPlaces, KeptPlaces, NoPlaces, OnePlace};
@@ -181,6 +181,24 @@ impl<'data, I: Cursor> Iterator for RuleBreakIterator<'data, I> {
         };
         reach.size_hint()
     }
+}
+
+/// The next boundary of a text behind its start, to which the cursor goes on. None at the end. Takes no memory.
+pub fn next_behind<I: Cursor>(
+    machine: &TailoredMachineBorrowed<'_>,
+    text: &mut I,
+) -> Option<Boundary>
+    ensures { GivesBehind (machine_of machine.now) (I.text text.old) result (I.text text.new) }
+{
+    if text.is_at_end() {
+        return None;
+    }
+    let mut ahead = read_apart(machine, text.fork());
+    let status = next_segment(machine, text, &mut ahead);
+    Some(Boundary {
+        offset: text.place(),
+        status,
+    })
 }
 
 /// The first symbol of a text, which is read already, and what is left after its item.

@@ -22,12 +22,6 @@ module _ (passes : ℕ → Bool) where
       cut whole ≡ record { items = item ∷ (cut after).items; end = (cut after).end }
   cut-next items item end pass = rw (one-more item.1 (code_points items) pass) refl
 
-  -- one that doesn't
-  pub cut-stop : (items : List Item) (item : Item) (end : ℕ) → passes item.1 ≡ false
-      → let whole : Text = record { items = item ∷ items; end = end } in
-      cut whole ≡ record { items = []; end = start_of whole }
-  cut-stop items item end stop = rw (no-more item.1 (code_points items) stop) refl
-
   -- an item of a text is read, which passes
   pub read-next : (before after : Text) (item : Item) → before.items ≡ item ∷ after.items → after.end ≡ before.end → passes item.1 ≡ true
       → ((cut before).items ≡ item ∷ (cut after).items) × ((cut after).end ≡ (cut before).end)
@@ -202,7 +196,3 @@ module _ (passes : ℕ → Bool) where
       taken-pass (drop (clip j n) text.items) (clip k (n - j)) (dropped-pass text.items (clip j n) (clip k (n - j)) within) in
       all-cut (slice_of (clip j n) (clip k (n - j)) text) (rw (shifted-same from part, shifted-many from part) pass)
       ∙ sym (rw (start-clip text j, start-clip text (j + k), part-clip text.items n j k, clip-add j k n) refl)
-
--- a text without items begins where it ends
-pub start-none : (text : Text) → text.items ≡ [] → start_of text ≡ text.end
-start-none text none = rw none refl

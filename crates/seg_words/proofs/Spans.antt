@@ -169,10 +169,6 @@ module _ (m : Machine) (payloads : Payloads) (checked : IsChecked m) (cover : Co
         ap (λ (some : List Boundary). some ++ later_in (after begun text)) ended ∙ ap later_in (none-after begun text empty) ∙ end,
       )
 
-  pub end-last : (begun : Bool) (text : Text) (place : ℕ) (still : List Boundary) → text.items ≡ [] → still ≡ [] → place ≡ start_of text
-      → last_of place still ≡ start_of (after begun text)
-  end-last begun text place still empty ended at = rw (ended, none-after begun text empty) at
-
 -- cuts as boundaries, at their places
 pub cut-boundaries : (status : ℕ) (text : Text) (cuts : List ℕ)
     → with_status status (map (λ (cut : ℕ). start_of (rest_after cut text)) cuts) ≡ map (boundary_in text) (with_status status cuts)

@@ -15,37 +15,16 @@ ghost use Rattle.seg_words.specs.WordsLeft.{span_left, IsFirstSpan};
 use crate::prefix::Prefix;
 use seg_clusters::complex::ComplexPayloadsBorrowed;
 use seg_clusters::dictionaries::DictionaryCuts;
-use seg_clusters::spans::{is_outside_runs, next_span};
+use seg_clusters::spans::{BetweenRuns, next_span};
 use seg_data::dictionaries::DictionariesBorrowed;
 use seg_data::provider::DictionaryCursor;
 use seg_machine::tailored_machine::TailoredMachineBorrowed;
 use seg_rows::rule_segmenter_v2::RuleBreakIterator;
 use seg_text::boundary::Boundary;
 use seg_text::cursor::Cursor;
-use seg_text::prefixes::CodePointTest;
 
 /// The status of what ends with letters.
 const LETTERS: u8 = 2;
-
-/// Whether code points stand between runs.
-#[derive(Clone, Copy)]
-pub(crate) struct BetweenRuns<'data> {
-    machine: TailoredMachineBorrowed<'data>,
-    dictionaries: DictionariesBorrowed<'data>,
-}
-
-impl<'data> CodePointTest for BetweenRuns<'data> {
-    ghost use Rattle.seg_data.specs.ScriptWords.{borrowed_words};
-    ghost use Rattle.seg_machine.specs.Tailored.{machine_of};
-    ghost use Rattle.seg_clusters.specs.Spans.{is_between};
-
-    ghost passes = { λ test. is_between (machine_of test.machine) (borrowed_words test.dictionaries) };
-
-    #[inline(always)]
-    fn accepts(&self, code_point: u32) -> bool {
-        is_outside_runs(self.machine, self.dictionaries, code_point)
-    }
-}
 
 /// A span, of which boundaries are left.
 #[derive(Drop)]

@@ -10,7 +10,6 @@ use seg_text::cursor::Cursor;
 use unicode_width::UnicodeWidthChar;
 
 // The columns of a code point.
-#[inline(always)]
 fn width_of(code_point: u32) -> u128
     ensures value { result ≡ width_of code_point }
     ensures bound { result ≤ 3 }
@@ -63,7 +62,6 @@ impl Extent {
     }
 
     /// The columns of these cells and then the character's.
-    #[inline(always)]
     fn followed_by(self, code_point: u32) -> Self
         requires room { self.inner_columns + 3 < 2 ^ 128 }
         ensures { result ≡ joined_extents self (line_extent (cell_of code_point ∷ [])) }

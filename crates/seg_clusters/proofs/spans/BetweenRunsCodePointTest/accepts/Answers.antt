@@ -1,5 +1,5 @@
 use Rattle.seg_clusters.proofs.RunsAhead.{between-is}
-use Rattle.seg_words.proofs.span.BetweenRunsCodePointTest.accepts.Goals as goal
+use Rattle.seg_clusters.proofs.spans.BetweenRunsCodePointTest.accepts.Goals as goal
 
 pub returns : goal.returns
 returns c = between-is _ _ c.args.code_point _ c.is_outside_runs.ensures
