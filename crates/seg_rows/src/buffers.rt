@@ -1,5 +1,5 @@
-//! Boundaries of a text by a machine's dense rows, written into buffers: nothing is read twice at a boundary, and no branch is taken on
-//! where one stands.
+//! Boundaries of a text by a machine's dense rows, written into buffers: nothing is read twice at a boundary, and where all boundaries are
+//! asked for, no branch is taken on where one stands.
 //!
 //! An entry of a row is the state that comes next and one bit, whether a segment ends before the character. Where the state goes on,
 //! it is the state that comes next; where it accepts and stops, it is the state that START goes on to, with the bit. Other entries say
