@@ -1,8 +1,7 @@
 -- The cuts strictly inside the runs of a text, span by span.
 use Rattle.std.proofs.Common.{◌≡◌, ℕ, zero, suc, ◌<◌, ◌≤◌, List, [], ◌∷◌, ◌++◌, length, map, take, refl, sym, ap, ◌∙◌, arith}
 use Rattle.std.specs.Prelude.{Option, None, Some}
-use Rattle.std.specs.Option.{option_map, option_to_list}
-use Rattle.std.specs.Iterator.{YieldsFirst}
+use Rattle.std.specs.Option.{option_map}
 use Rattle.seg_text.specs.Items.{Item, Text, rest_after, text_before, code_points}
 use Rattle.seg_text.specs.Boundaries.{boundary_in, boundaries_in, offsets, RisesTo, AreCutsOf, cut_places, with_status, later_boundaries}
 use Rattle.seg_text.proofs.Stretches.{text-later-nil}
@@ -32,15 +31,6 @@ inside-cuts n (cut ∷ next ∷ cuts) are = (are.0, inside-cuts n (next ∷ cuts
 
 abbrev pub in-span : Clusters → InSpan
 in-span clusters found span = with_status 0 (but_the_last (span_cuts clusters found span))
-
--- what was given and what is left are what was there
-pub first-taken : {S A : Type 0} (left : S → List A) (old new : S) (given : Option A) → YieldsFirst left old given new → option_to_list given ++ left new ≡ left old
-first-taken left old new None (none, still) = still ∙ sym none
-first-taken left old new (Some first) is = sym is
-
-pub no-more : {S A : Type 0} (left : S → List A) (old new : S) (given : Option A) → YieldsFirst left old given new → given ≡ None → left new ≡ []
-no-more left old new None (none, still) is = still
-no-more left old new (Some first) gives is = absurd cc
 
 module _ (m : Machine) (payloads : Payloads) (cover : CoverPieces (piece_cuts_by payloads)) where
   abbrev pub clusters : Clusters

@@ -1,5 +1,5 @@
 -- Boundaries of a machine that are given some at once, as far as no run begins.
-use Rattle.std.proofs.Common.{◌≡◌, ℕ, zero, suc, ◌-◌, ◌<◌, ◌≤◌, List, [], ◌∷◌, ◌++◌, drop, length, map, slice_index, take, refl, sym, ap, ◌∙◌, subst, arith}
+use Rattle.std.proofs.Common.{◌≡◌, ℕ, zero, suc, ◌-◌, ◌<◌, ◌≤◌, List, [], ◌∷◌, ◌++◌, drop, length, map, slice_index, take, take-append-drop, refl, sym, ap, ◌∙◌, subst, arith}
 use Rattle.std.specs.Prelude.{Option, None, Some}
 use Rattle.std.proofs.lemmas.List.{drop_all, length-take-le, take-map, take-take}
 use Rattle.seg_text.specs.declared.boundary.Boundary.{Boundary}
@@ -68,18 +68,13 @@ joined-front (first ∷ front) rest cuts limit most above =
     above-least low high [] less above = tt
     above-least low high (n ∷ numbers) less above = (omega (arith, less, above.0), above-least low high numbers less above.1)
 
-split : (count : ℕ) (all : List Boundary) → all ≡ take count all ++ drop count all
-split zero all = refl
-split (suc count) [] = refl
-split (suc count) (first ∷ all) = ap (λ (l : List Boundary). first ∷ l) (split count all)
-
 -- Of what a machine has still to give some were written, up to a place, and no cut stands up to there.
 module _ (found later : List Boundary) (old new olds news : List ℕ) (count : ℕ) (writes : WritesSome found later old new olds news count) where
   abbrev front : List Boundary
   front = take count found
 
   whole : found ≡ front ++ later
-  whole = split count found ∙ ap (λ (l : List Boundary). front ++ l) (sym writes.left)
+  whole = sym (take-append-drop count found) ∙ ap (λ (l : List Boundary). front ++ l) (sym writes.left)
 
   few : length front ≡ count
   few = length-take-le count found writes.some

@@ -1,5 +1,5 @@
 -- Boundaries that are written over the first places of buffers.
-use Rattle.std.proofs.Common.{◌≡◌, ◌≢◌, ℕ, zero, suc, ◌+◌, ◌-◌, ◌*◌, ◌/◌, ◌%◌, ◌<◌, ◌≤◌, Bool, true, false, List, [], ◌∷◌, ◌++◌, drop, map, take, set, length, min, slice_index, refl, sym, ap, ◌∙◌, subst, arith, append_assoc, append-nil, length-append, inl, inr}
+use Rattle.std.proofs.Common.{◌≡◌, ◌≢◌, ℕ, zero, suc, ◌+◌, ◌-◌, ◌*◌, ◌/◌, ◌%◌, ◌<◌, ◌≤◌, Bool, true, false, List, [], ◌∷◌, ◌++◌, drop, map, take, take-append-drop, set, length, min, slice_index, refl, sym, ap, ◌∙◌, subst, arith, append_assoc, append-nil, length-append, inl, inr}
 use Rattle.std.specs.Prelude.{if◌then◌else◌, nat_lt}
 use Rattle.std.proofs.Math.Nat.{suc-mul}
 use Rattle.std.proofs.lemmas.Bool.{cases_eq, cases_lt}
@@ -428,11 +428,6 @@ done m false text first old status given from count left room none same whole be
     (ap (λ (later : List Boundary). start ∷ later) (ap (behind m) (sym same) ∙ whole)) (omega (arith, begun, counted))
     (last ∙ ap (λ (status : ℕ). last_status status given) (none refl)) within end
 
-split-at : (count : ℕ) (xs : List ℕ) → xs ≡ take count xs ++ drop count xs
-split-at zero xs = refl
-split-at (suc count) [] = refl
-split-at (suc count) (x ∷ xs) = ap (λ (later : List ℕ). x ∷ later) (split-at count xs)
-
 -- what is written of them, where the buffer had what comes first
 pub done-values : (m : Machine) (before : Remainder) (pre given : List Boundary) (count : ℕ) (left : Text) (status room from : ℕ) (value : Boundary → ℕ) (old begun new : List ℕ)
     → IsDone m before (pre ++ given) count left status room → take count new ≡ take from begun ++ map value given → take from begun ≡ map value pre
@@ -440,7 +435,7 @@ pub done-values : (m : Machine) (before : Remainder) (pre given : List Boundary)
 done-values m before pre given count left status room from value old begun new d written first later behind within = record {
   few = d.few ∙ ap (λ (n : ℕ). min n room) (sym (length-map before.left value));
   first =
-      split-at count new
+      sym (take-append-drop count new)
       ∙ ap (λ (some : List ℕ). some ++ drop count new)
       (written ∙ ap (λ (some : List ℕ). some ++ map value given) first ∙ sym (map-append value pre given) ∙ ap (map value) (sym d.first) ∙ sym (take-map value count before.left))
       ∙ ap (λ (rest : List ℕ). take count (map value before.left) ++ rest) (later ∙ drop-further begun old from count within behind);
