@@ -19,6 +19,7 @@ use Rattle.seg_machine.specs.DenseRows.{slow, status_of}
 use Rattle.seg_text.specs.Filled.{TakesFirst, after_given, last_status}
 use Rattle.seg_rows.specs.Given.{first_unless}
 use Rattle.seg_rows.specs.Underway.{IsGiven, IsNextEntry, IsUnderway, behind}
+use Rattle.seg_rows.proofs.Reading.{fewer}
 use Rattle.seg_rows.proofs.Underway.{ends-at, goes}
 
 -- Of a text's boundaries behind its start these are given. Behind them `last` is left, to which a cursor at `rest` can go, and some of
@@ -76,7 +77,7 @@ giving-ends m first rest given last row after entry next checked rises g read fa
       last_is = here ∙ ap (rest_after p.offset) g.last_is ∙ after-after p.offset g.k rest;
       whole = whole-more m first last after given (status_of m (row / 256)) g.whole g.some at.segment;
       under = at.under;
-      some = some-left (read.less fast);
+      some = some-left (fewer m _ after (row / 256) entry next read fast);
       bound = g.bound;
     }
   where

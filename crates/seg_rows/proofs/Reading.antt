@@ -31,9 +31,6 @@ end-ahead m old new checked none left end = record {
   left = none-less old new none left end;
 }
 
-fewer : (old new : Text) (item : Item) → old.items ≡ item ∷ new.items → length new.items < length old.items
-fewer old new item is = rw is (omega arith)
-
 pub some-items : (items later : List Item) (item : Item) → items ≡ item ∷ later → items ≢ []
 some-items items later item is none = cc
 
@@ -48,7 +45,6 @@ next-ascii m passes entries row state old new item checked rows is within below 
       says = λ fast. entry;
       known = λ other items first passed few. entry;
       read = λ fast. (item, read, pass);
-      less = λ fast. fewer old new item read;
     }
 
 says-of : (m : Machine) (state code_point entry : ℕ) → IsEntryOf m state code_point entry → entry ≢ slow → entry ≡ row_entry m state (symbol_and_script m code_point).0
@@ -63,7 +59,6 @@ next-wide m passes state entry old new item checked is read end pass = record {
   says = says-of m state item.1 entry is;
   known = λ other items first passed few. is.few few;
   read = λ fast. (item, read, pass);
-  less = λ fast. fewer old new item read;
 }
 
 -- its code point doesn't pass
@@ -75,7 +70,6 @@ next-failing m passes state old new item checked read end fails = record {
   says = λ fast. absurd (fast refl);
   known = λ other items first passed few. absurd (differ (sym fails ∙ ap passes (same other items (sym read ∙ first)) ∙ passed));
   read = λ fast. absurd (fast refl);
-  less = λ fast. absurd (fast refl);
 }
   where
     same : (other : Item) (items : List Item) → item ∷ new.items ≡ other ∷ items → item.1 ≡ other.1
@@ -96,7 +90,6 @@ next-end m passes state old new checked none left end = record {
   says = λ fast. absurd (fast refl);
   known = λ item items some passed few. absurd (some-items old.items items item some none);
   read = λ fast. absurd (fast refl);
-  less = λ fast. absurd (fast refl);
 }
 
 -- an entry that comes next in a text comes next in one that equals it
@@ -140,3 +133,7 @@ pub ends-if : (m : Machine) (text : Text) (row place : ℕ) (found : Option ℕ)
     → IfSome found (λ status. (p : Boundary) × (pick m (symbols_of m (code_points text.items)) ≡ Some p) × (place ≡ start_of (rest_after p.offset text)) × (status ≡ p.status))
 ends-if m text row place None checked rises stuck none is = tt
 ends-if m text row place (Some status) checked rises stuck none is = ends-there m text row place status checked rises stuck none (sym is)
+
+-- an entry that says something is that of an item, which is read
+pub fewer : (m : Machine) (passes : ℕ → Bool) (old : Text) (state entry : ℕ) (new : Text) → IsNextEntry m passes old state entry new → entry ≢ slow → length new.items < length old.items
+fewer m passes old state entry new next fast = let (item, is, pass) = next.read fast in rw is (omega arith)

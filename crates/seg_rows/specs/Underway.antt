@@ -42,7 +42,6 @@ pub record IsNextEntry (m : Machine) (passes : ℕ → Bool) (text : Text) (stat
   pub says : entry ≢ slow → entry ≡ row_entry m state symbol
   pub known : (item : Item) (items : List Item) → text.items ≡ item ∷ items → passes item.1 ≡ true → symbol < 128 → entry ≡ row_entry m state symbol
   pub read : entry ≢ slow → (item : Item) × (text.items ≡ item ∷ after.items) × (passes item.1 ≡ true)
-  pub less : entry ≢ slow → length after.items < length text.items
 
 -- the scan of a text has come to a place, in the state of this row
 abbrev pub IsStuck : Machine → Text → ℕ → ℕ → Type 0
